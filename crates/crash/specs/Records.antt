@@ -98,16 +98,22 @@ sender_of_parameters code parameters = record {
 }
 
 -- Linux's SIGPOLL and SIGSYS, of which Crashpad has other fields of that union: `si_band` or
--- `si_call_addr`, as wide as an address and at its place, and `si_fd` or `si_syscall`
-abbrev has_fields_of_its_own : ℕ → Bool
-has_fields_of_its_own signal = signal == 29 || signal == 31
+-- `si_call_addr`, as wide as an address and at its place, and after it `si_fd` or `si_syscall`
+abbrev is_poll_or_sys : ℕ → Bool
+is_poll_or_sys signal = signal == 29 || signal == 31
+
+-- the first parameter has both ids: the first field of these signals, where it has 64 bits. Where it has
+-- 32, the second field lies where `si_uid` does
+abbrev pub has_both_ids : PointerWidth → ℕ → Bool
+has_both_ids Bits32 signal = false
+has_both_ids _ signal = is_poll_or_sys signal
 
 -- the same by the address, else by the parameters: unknown where there are neither
 abbrev pub sender_by : SignalCode → PointerWidth → MINIDUMP_EXCEPTION → Sender
 sender_by code width r =
     if not (r.exception_address == 0) then sender_at code width r.exception_address
     else (if nat_lt r.number_parameters 2 then record { code = code; process = None; user = None }
-    else (if has_fields_of_its_own r.exception_code
+    else (if has_both_ids width r.exception_code
     then sender_at code width (slice_index r.exception_information 0)
     else sender_of_parameters code r.exception_information))
 

@@ -15,6 +15,7 @@ use Rattle.minidump.specs.Exception.{Exception}
 use Rattle.minidump.specs.Thread.{Thread, last_error_address}
 use Rattle.stack_walk.specs.Frames.{StackValue}
 use Rattle.crash.specs.declared.contexts.ContextProblem.{ContextProblem}
+use Rattle.crash.specs.declared.contexts.ShortContext.{ShortContext}
 use Rattle.crash.specs.declared.threads.CrashThread.{CrashThread}
 use Rattle.crash.specs.declared.threads.CrashThreads.{CrashThreads}
 use Rattle.crash.specs.declared.stacks.StackRange.{StackRange}
@@ -65,6 +66,10 @@ thread_value t = record {
 
 abbrev pub threads_of : CrashThreads → ThreadsValue
 threads_of t = record { threads = map thread_value t.threads.items; crashing = t.crashing }
+
+-- how much there is of the context of a thread's registers, where that is cut
+abbrev pub short_context : ThreadValue → Option ShortContext
+short_context t = option_and_then (λ c. c.short) t.context
 
 -- ---- what is known of a thread
 

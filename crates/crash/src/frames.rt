@@ -34,9 +34,9 @@ pub struct CrashWalk {
 /// A frame of a stack.
 #[derive(Clone, Copy, Debug)]
 pub struct CrashFrame {
-    /// The address by which it is looked up: the instruction pointer of the context, and else the
-    /// return address less one, which lies in the call; on ARM of 32 bits without its bit 0, which
-    /// stands for Thumb code. `None` where nothing is below that.
+    /// The address by which it is looked up: the instruction pointer of the context, or else the
+    /// address below its return address, which lies in the call. On ARM of 32 bits bit 0 of the return
+    /// address, which stands for Thumb code, is cleared first. `None` where nothing lies below.
     pub address: Option<u64>,
     /// The instruction pointer of the context, or else the return address of the frame before.
     pub instruction: u64,

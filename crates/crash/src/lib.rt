@@ -43,6 +43,7 @@
 #![tactic(auto)]
 
 mod addresses;
+mod annotations;
 mod cause;
 mod contents;
 mod contexts;
@@ -72,6 +73,7 @@ mod threads;
 mod unreadable_modules;
 
 pub use addresses::{AddressFacts, AddressMemory, RegionState};
+pub use annotations::annotation_text;
 pub use cause::{CrashCause, CrashException};
 pub use contents::{Contents, MessageStreams, ProcessStreams, SystemStreams, ThreadStreams};
 pub use contexts::{ContextOrigin, ContextProblem, CrashContext, ShortContext};
@@ -89,7 +91,7 @@ pub use process::{CrashProcess, CrashSystem};
 pub use process_texts::Comments;
 pub use records::{Access, Sender, SignalCode};
 pub use release::LsbRelease;
-pub use space::SpaceStreams;
+pub use space::{SpaceStreams, regions_of};
 pub use stacks::StackRange;
 pub use threads::{CrashThread, CrashThreads};
 pub use unreadable_modules::{ModulePart, UnreadableModule};

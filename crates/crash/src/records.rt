@@ -3,7 +3,7 @@ ghost use Rattle.std.specs.Prelude.{◌≡◌, ◌%◌, ◌/◌, ◌^◌, IfOk, 
 ghost use Rattle.std.specs.Option.{option_copied, option_map, option_map_or};
 ghost use Rattle.minidump.specs.Promise.{system_info_stream};
 ghost use Rattle.crash.specs.Records.{access_in, access_of_number, access_on, description_in};
-ghost use Rattle.crash.specs.Records.{is_process, parameter_bytes, text_unless_empty};
+ghost use Rattle.crash.specs.Records.{has_both_ids, is_process, parameter_bytes, text_unless_empty};
 ghost use Rattle.crash.specs.Records.{is_low_access, is_sent, is_signal};
 ghost use Rattle.crash.specs.Records.{parameters_in, sender_at, sender_by, sender_if_sent, sender_in};
 ghost use Rattle.crash.specs.Records.{sender_on, sender_with, signal_code, signal_code_name};
@@ -267,7 +267,7 @@ fn sender_by(code: SignalCode, width: PointerWidth, raw: &MINIDUMP_EXCEPTION) ->
             process: None,
             user: None,
         }
-    } else if raw.exception_code == SIGPOLL || raw.exception_code == SIGSYS {
+    } else if has_both_ids(width, raw.exception_code) {
         sender_at(code, width, raw.exception_information[0])
     } else {
         Sender {
@@ -275,6 +275,16 @@ fn sender_by(code: SignalCode, width: PointerWidth, raw: &MINIDUMP_EXCEPTION) ->
             process: Some(low(raw.exception_information[0])),
             user: Some(low(raw.exception_information[1])),
         }
+    }
+}
+
+// Tells whether the first parameter of a signal has both ids.
+fn has_both_ids(width: PointerWidth, signal: u32) -> bool
+    ensures { result ≡ has_both_ids width signal }
+{
+    match width {
+        PointerWidth::Bits32 => false,
+        _ => signal == SIGPOLL || signal == SIGSYS,
     }
 }
 

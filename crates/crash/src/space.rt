@@ -1,8 +1,9 @@
-ghost use Rattle.std.specs.Prelude.{◌≡◌, [], IfOk, IsOkUnless, length, unwrap_or};
+ghost use Rattle.std.specs.Prelude.{◌≡◌, [], IfOk, IsOkUnless, length, map, unwrap_or};
 ghost use Rattle.std.specs.Option.{option_map};
 ghost use Rattle.std.specs.Result.{result_err, result_ok};
 ghost use Rattle.minidump.specs.Below.Contexts.Context.{map_ok};
-ghost use Rattle.minidump.specs.Below.MemoryLists.Unified.{unified_list};
+ghost use Rattle.minidump.specs.Below.MemoryLists.Unified.{unified_list, unified_region};
+ghost use Rattle.minidump.specs.Below.MemoryLists.Unified.{unified_regions};
 ghost use Rattle.minidump.specs.Below.MemoryLists.UnifiedInfo.{info_list};
 ghost use Rattle.minidump.specs.DumpValue.{dump_of};
 ghost use Rattle.minidump.specs.Promise.{linux_maps_stream, memory64_list_stream};
@@ -13,10 +14,10 @@ ghost use Rattle.crash.specs.Space.{first_infos, first_memory};
 
 use minidump::{
     Error, Minidump, MinidumpLinuxMaps, MinidumpMemory64List, MinidumpMemoryInfoList,
-    MinidumpMemoryList, MinidumpModuleList, MinidumpUnloadedModuleList, UnifiedMemoryInfoList,
-    UnifiedMemoryList,
+    MinidumpMemoryList, MinidumpModuleList, MinidumpUnloadedModuleList, UnifiedMemory,
+    UnifiedMemoryInfoList, UnifiedMemoryList,
 };
-use std::alloc::Global;
+use std::alloc::{AllocError, Global};
 
 /// The streams of the address space. A list that can't be read is empty, and its error is beside
 /// it. The memory is that of the 64-bit list, else of the plain one; what is known of its regions is
@@ -41,6 +42,19 @@ pub struct SpaceStreams<'a> {
     pub infos_errors: (Option<Error>, Option<Error>),
     /// How many lines the maps have, or `None` if they can't be read.
     pub map_count: Option<usize>,
+}
+
+/// Returns the regions of memory, in the order of their list.
+///
+/// Returns `AllocError` if an allocation fails.
+pub fn regions_of<'l, 'a>(
+    alloc: Global,
+    memory: &'l UnifiedMemoryList<'a>,
+) -> Result<Vec<UnifiedMemory<'l, 'a>>, AllocError>
+    ensures { IfOk result
+        (λ regions. map unified_region regions.items ≡ unified_regions (unified_list memory.now)) }
+{
+    memory.iter().collect(alloc)
 }
 
 // Reads the streams of the address space.

@@ -7,16 +7,16 @@ ghost use Rattle.minidump.specs.Thread.{thread_of};
 ghost use Rattle.crash.specs.Contents.{contents_of};
 ghost use Rattle.crash.specs.Threads.{all_threads, crashed_thread, crashing_at, extra_in};
 ghost use Rattle.crash.specs.Threads.{extra_threads};
-ghost use Rattle.crash.specs.Threads.{has_thread, listed_in, thread_value, threads_by};
-ghost use Rattle.crash.specs.Threads.{extra_walked, threads_in, threads_of, walked_at};
+ghost use Rattle.crash.specs.Threads.{has_thread, listed_in, short_context, thread_value};
+ghost use Rattle.crash.specs.Threads.{extra_walked, threads_by, threads_in, threads_of, walked_at};
 ghost use Rattle.crash.specs.Threads.{walked_of_entry};
 ghost use Rattle.crash.specs.Frames.{walked_of};
 ghost use Rattle.crash.specs.Last.{last_index};
 
 use crate::contents::Contents;
 use crate::contexts::{
-    ContextOrigin, ContextProblem, CrashContext, context_at, found_context, of_origin, problem_in,
-    registers_of,
+    ContextOrigin, ContextProblem, CrashContext, ShortContext, context_at, found_context,
+    of_origin, problem_in, registers_of,
 };
 use crate::counting::counting_exception;
 use crate::each::{MakeItem, make_items};
@@ -82,6 +82,15 @@ pub struct CrashThread {
     pub walk: Option<CrashWalk>,
     /// Its last error in words, as Windows keeps it.
     pub last_error: Option<String>,
+}
+
+impl CrashThread {
+    /// Returns how much there is of the context of its registers, if that is cut.
+    pub fn short_context(&self) -> Option<ShortContext>
+        ensures { result ≡ short_context (thread_value self.now) }
+    {
+        self.context.as_ref()?.short
+    }
 }
 
 // Returns the threads of a process.

@@ -1,7 +1,8 @@
 -- The tokens of objects and arrays, from those of their members and items.
-use Rattle.std.specs.List.{enumerate_from}
+use Rattle.std.specs.List.{enumerate_from, flat_map}
 use Rattle.std.specs.Option.{option_map}
 use Rattle.std.specs.Result.{result_ok}
+use Rattle.std.proofs.lemmas.List.{drop_all}
 use Rattle.std.proofs.lemmas.Simd.{map-map}
 use Rattle.std.proofs.Common.{◌<◌, ◌+◌, suc, length, get_or, drop, add-one, drop-cons, ◌≡◌, ◌∙◌, ◌≤◌, ℕ, List, [], ◌∷◌, ◌++◌, Option, Some, None, Result, Ok, Err, map, option_and_then, refl, ap, sym, append_assoc, append-nil}
 use Rattle.json.specs.Token.{Token, begin_object, end_object, begin_array, end_array}
@@ -11,7 +12,7 @@ use Rattle.json.proofs.Printed.Trees.{value-json_tokens}
 use Rattle.json.specs.Tree.{json_tokens, members_tokens, items_tokens, depth}
 use Rattle.minidump.specs.declared.Error.{Error}
 use Rattle.minidump.specs.Below.Contexts.Context.{map_ok}
-use Rattle.crash_json.specs.Tree.{array_of, item_tokens, items_of, member_list_tokens, members_of, numbered_array_of, numbered_tokens, object_of, or_null}
+use Rattle.crash_json.specs.Tree.{array_of, items_of, member_list_tokens, members_of, object_of, or_null}
 
 members_of_list : (ms : List (List ℕ × Json)) → members_tokens (members_of ms) ≡ member_list_tokens ms ++ (end_object ∷ [])
 unfolding member_list_tokens
@@ -35,10 +36,27 @@ split [] b = refl
 split (m ∷ a) b = ap (λ ts. Token.key m.0 ∷ (json_tokens m.1 ++ ts)) (split a b)
     ∙ ap (λ ts. Token.key m.0 ∷ ts) (sym (append_assoc (json_tokens m.1) (member_list_tokens a) (member_list_tokens b)))
 
+-- members in brackets are an object
+pub in_object : (t u v w : List Token) (ms : List (List ℕ × Json))
+    → u ≡ t ++ (begin_object ∷ []) → v ≡ u ++ member_list_tokens ms → w ≡ v ++ (end_object ∷ []) → w ≡ t ++ json_tokens (object_of ms)
+in_object t u v w ms begin members end =
+    end ∙ ap (λ ts. ts ++ (end_object ∷ [])) (members ∙ ap (λ ts. ts ++ member_list_tokens ms) begin) ∙ object_of_members t ms
+
+-- a name and its value are a member
+pub named : (t u v : List Token) (name : List ℕ) (j : Json) → u ≡ t ++ (Token.key name ∷ []) → v ≡ u ++ json_tokens j → v ≡ t ++ member_list_tokens ((name, j) ∷ [])
+unfolding member_list_tokens
+named t u v name j key value =
+    value ∙ ap (λ ts. ts ++ json_tokens j) key ∙ append_assoc t (Token.key name ∷ []) (json_tokens j)
+    ∙ ap (λ ts. t ++ (Token.key name ∷ ts)) (sym (append-nil (json_tokens j)))
+
 -- members after members
 pub more : (t u v : List Token) (a b : List (List ℕ × Json)) → u ≡ t ++ member_list_tokens a → v ≡ u ++ member_list_tokens b → v ≡ t ++ member_list_tokens (a ++ b)
 more t u v a b first second =
     second ∙ ap (λ ts. ts ++ member_list_tokens b) first ∙ append_assoc t (member_list_tokens a) (member_list_tokens b) ∙ ap (λ ts. t ++ ts) (sym (split a b))
+
+-- the tokens of the values of items, one after another, without brackets
+abbrev pub item_tokens : {X : Type 0} → (X → Json) → List X → List Token
+item_tokens json xs = flat_map (λ x. json_tokens (json x)) xs
 
 items_of_list : {X : Type 0} (f : X → Json) (xs : List X) → items_tokens (items_of (map f xs)) ≡ item_tokens f xs ++ (end_array ∷ [])
 items_of_list f [] = refl
@@ -46,18 +64,18 @@ items_of_list f (x ∷ xs) =
     let mine = json_tokens (f x) in
     ap (λ ts. mine ++ ts) (items_of_list f xs) ∙ sym (append_assoc mine (item_tokens f xs) (end_array ∷ []))
 
--- brackets round the tokens of items are an array
-pub array_of_items : {X : Type 0} (old : List Token) (f : X → Json) (xs : List X)
-    → ((old ++ (begin_array ∷ [])) ++ item_tokens f xs) ++ (end_array ∷ []) ≡ old ++ json_tokens (array_of f xs)
-array_of_items old f xs =
-    append_assoc (old ++ (begin_array ∷ [])) (item_tokens f xs) (end_array ∷ [])
-    ∙ append_assoc old (begin_array ∷ []) (item_tokens f xs ++ (end_array ∷ []))
-    ∙ ap (λ ts. old ++ (begin_array ∷ ts)) (sym (items_of_list f xs))
+array_of_items : {X : Type 0} (f : X → Json) (xs : List X) (t : List Token)
+    → ((t ++ (begin_array ∷ [])) ++ item_tokens f xs) ++ (end_array ∷ []) ≡ t ++ json_tokens (array_of f xs)
+array_of_items f xs t =
+    append_assoc (t ++ (begin_array ∷ [])) (item_tokens f xs) (end_array ∷ [])
+    ∙ append_assoc t (begin_array ∷ []) (item_tokens f xs ++ (end_array ∷ []))
+    ∙ ap (λ ts. t ++ (begin_array ∷ ts)) (sym (items_of_list f xs))
 
--- the same by the items' numbers
-pub array_of_numbered : {X : Type 0} (old : List Token) (f : ℕ → X → Json) (xs : List X)
-    → ((old ++ (begin_array ∷ [])) ++ numbered_tokens f xs) ++ (end_array ∷ []) ≡ old ++ json_tokens (numbered_array_of f xs)
-array_of_numbered old f xs = array_of_items old (λ p. f p.0 p.1) (enumerate_from 0 xs)
+-- items in brackets are an array
+pub in_array : {X : Type 0} (f : X → Json) (xs : List X) (t u v w : List Token)
+    → u ≡ t ++ (begin_array ∷ []) → v ≡ u ++ item_tokens f xs → w ≡ v ++ (end_array ∷ []) → w ≡ t ++ json_tokens (array_of f xs)
+in_array f xs t u v w begin items end =
+    end ∙ ap (λ ts. ts ++ (end_array ∷ [])) (items ∙ ap (λ ts. ts ++ item_tokens f xs) begin) ∙ array_of_items f xs t
 
 -- after what was put, the tokens of an item and of those after it are those from the item's number
 -- on
@@ -70,6 +88,12 @@ next_numbered f xs i old new x within at put whole =
     let rest = item_tokens (λ p. f p.0 p.1) (enumerate_from (i + 1) (drop (i + 1) xs)) in
     ap (λ ts. ts ++ rest) put ∙ append_assoc old (json_tokens (f i x)) rest
     ∙ sym (ap (λ ys. old ++ item_tokens (λ p. f p.0 p.1) (enumerate_from i ys)) next) ∙ whole
+
+-- after the last item comes none
+pub last_numbered : {X : Type 0} (f : ℕ → X → Json) (xs : List X) (i : ℕ) (now : List Token) {all : List Token}
+    → length xs ≤ i → now ++ item_tokens (λ p. f p.0 p.1) (enumerate_from i (drop i xs)) ≡ all → now ≡ all
+last_numbered f xs i now past whole =
+    sym (append-nil now) ∙ ap (λ ys. now ++ item_tokens (λ p. f p.0 p.1) (enumerate_from i ys)) (sym (drop_all i xs past)) ∙ whole
 
 -- a text whose tokens are those of a value is that value
 pub document_of_tokens : (text : List ℕ) (j : Json) → tokens text ≡ json_tokens j → depth j ≤ max_depth → document text ≡ Some j

@@ -58,39 +58,34 @@ access_name Write = codes "write"
 access_name Execute = codes "execute"
 
 -- the process that sent a signal, its user, and the name of the signal's `si_code`
-unfoldable pub sender_object : Option ℕ → Option ℕ → List ℕ → Json
-sender_object process user code = object_of (
-    (codes "process_id", or_null count process)
-    ∷ (codes "user_id", or_null count user)
-    ∷ (codes "code", string code)
+unfoldable pub sender_json : Sender → Json
+sender_json s = object_of (
+    (codes "process_id", or_null count s.process)
+    ∷ (codes "user_id", or_null count s.user)
+    ∷ (codes "code", string (signal_code_name s.code))
     ∷ [])
 
--- a sender
-abbrev pub sender_json : Sender → Json
-sender_json s = sender_object s.process s.user (signal_code_name s.code)
-
--- an exception by its parameters, and by the words for how memory was accessed and for why its
--- context isn't used
-unfoldable pub exception_object : ExceptionValue → List ℕ → Option (List ℕ) → Option (List ℕ) → Json
-exception_object e parameters access problem = object_of (
+-- an exception that can be read
+unfoldable pub read_json : ExceptionValue → Json
+read_json e = object_of (
     (codes "thread_id", count e.thread)
     ∷ (codes "code", hex_string e.code)
     ∷ (codes "flags", hex_string e.flags)
     ∷ (codes "exception_address", hex_string e.at)
     ∷ (codes "nested", hex_string e.nested)
-    ∷ (codes "parameters", array_of hex_string parameters)
-    ∷ (codes "access", or_null string access)
+    ∷ (codes "parameters", array_of hex_string e.parameters)
+    ∷ (codes "access", or_null string (option_map access_name e.access))
     ∷ (codes "sender", or_null sender_json e.sender)
     ∷ (codes "address", or_null hex_string e.address)
     ∷ (codes "type", or_null string e.reason)
     ∷ (codes "description", or_null string e.description)
-    ∷ (codes "context_problem", or_null string problem)
+    ∷ (codes "context_problem", or_null string (option_map problem_name e.context_problem))
     ∷ (codes "error", null)
     ∷ [])
 
 -- one that can't be read, by the name of the error
-unfoldable pub unread_object : List ℕ → Json
-unread_object error = object_of (
+unfoldable pub unread_json : List ℕ → Json
+unread_json error = object_of (
     (codes "thread_id", null)
     ∷ (codes "code", null)
     ∷ (codes "flags", null)
@@ -108,9 +103,8 @@ unread_object error = object_of (
 
 -- an exception, or why it can't be read
 abbrev pub exception_json : Result ExceptionValue Error → Json
-exception_json (Ok e) = exception_object e e.parameters (option_map access_name e.access)
-    (option_map problem_name e.context_problem)
-exception_json (Err error) = unread_object (name_of_error error)
+exception_json (Ok e) = read_json e
+exception_json (Err error) = unread_json (name_of_error error)
 
 -- ---- the address
 
@@ -120,19 +114,15 @@ state_name Free = codes "free"
 state_name Reserved = codes "reserved"
 state_name Committed = codes "committed"
 
--- memory by the word for its state
-unfoldable pub memory_object : List ℕ → AddressMemory → Json
-memory_object state m = object_of (
-    (codes "state", string state)
+-- the memory that contains an address
+unfoldable pub memory_json : AddressMemory → Json
+memory_json m = object_of (
+    (codes "state", string (state_name m.state))
     ∷ (codes "is_readable", boolean m.is_readable)
     ∷ (codes "is_writable", boolean m.is_writable)
     ∷ (codes "is_executable", boolean m.is_executable)
     ∷ (codes "is_guarded", boolean m.is_guarded)
     ∷ [])
-
--- the memory that contains an address
-abbrev pub memory_json : AddressMemory → Json
-memory_json m = memory_object (state_name m.state) m
 
 -- what is known of an address, as members
 unfoldable pub address_members : AddressFacts → List (List ℕ × Json)

@@ -33,10 +33,6 @@ crashpad_module_json m = object_of (
     ∷ (codes "objects", objects_json m.annotation_objects)
     ∷ [])
 
--- those of modules
-abbrev pub crashpad_modules_json : List Module → Json
-crashpad_modules_json modules = array_of crashpad_module_json modules
-
 -- Crashpad's information by the texts of its two identifiers: these, the annotations of the process,
 -- and those of its modules
 unfoldable pub crashpad_object : Crashpad → List ℕ → List ℕ → Json
@@ -44,7 +40,7 @@ crashpad_object c report_id client_id = object_of (
     (codes "report_id", string report_id)
     ∷ (codes "client_id", string client_id)
     ∷ (codes "annotations", annotations_json c.simple_annotations)
-    ∷ (codes "modules", crashpad_modules_json c.module_list)
+    ∷ (codes "modules", array_of crashpad_module_json c.module_list)
     ∷ [])
 
 -- the same by its value

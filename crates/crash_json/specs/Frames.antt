@@ -38,27 +38,21 @@ file_at modules place =
 abbrev pub of_first : ℕ → Option ContextValue → Option ContextValue
 of_first number context = if number == 0 then context else None
 
--- the members of a frame by its number, the word for its trust, the file of its module, the offset in
--- that, and its registers
-unfoldable pub frame_object : ℕ → List ℕ → Option (List ℕ) → Option ℕ → CrashFrame
-    → Option ContextValue → List (List ℕ × Json)
-frame_object number trust file offset f context =
+-- the members of a frame but its names, by its number, with the registers of the first one, where
+-- these are shown
+unfoldable pub place_members : List LoadedValue → Option ContextValue → ℕ → CrashFrame
+    → List (List ℕ × Json)
+place_members modules context number f =
     (codes "frame", count number)
-    ∷ (codes "trust", string trust)
-    ∷ (codes "module", or_null string file)
-    ∷ (codes "module_offset", or_null hex_string offset)
+    ∷ (codes "trust", string (trust_name f.trust))
+    ∷ (codes "module", or_null string (file_at modules f.module))
+    ∷ (codes "module_offset", or_null hex_string (option_map (λ p. p.1) f.module))
     ∷ (codes "offset", or_null hex_string f.address)
     ∷ (codes "instruction", hex_string f.instruction)
     ∷ (codes "stack_pointer", hex_string f.stack_pointer)
     ∷ (codes "frame_pointer", or_null hex_string f.frame_pointer)
-    ∷ (codes "registers", or_null registers_json context)
+    ∷ (codes "registers", or_null registers_json (of_first number context))
     ∷ []
-
--- those of a frame by its number, with the registers of the first one, where these are shown
-abbrev pub place_members : List LoadedValue → Option ContextValue → ℕ → CrashFrame
-    → List (List ℕ × Json)
-place_members modules context number f = frame_object number (trust_name f.trust)
-    (file_at modules f.module) (option_map (λ p. p.1) f.module) f (of_first number context)
 
 -- ---- names
 
@@ -87,10 +81,6 @@ abbrev pub inline_json : CallValue → Json
 inline_json c =
     inline_object (lossy c.function) (lossy (source_file c.source)) (source_line c.source)
 
--- the inlined calls at a frame
-abbrev pub inlines_json : List CallValue → Json
-inlines_json calls = array_of inline_json calls
-
 -- the members of a frame's names, by those of its function and of its source file, and whether it has
 -- no function
 unfoldable pub name_object : Option (List ℕ) → Option ℕ → Option (List ℕ) → Option ℕ
@@ -100,7 +90,7 @@ name_object function offset file line inlines is_missing =
     ∷ (codes "function_offset", or_null hex_string offset)
     ∷ (codes "file", or_null string file)
     ∷ (codes "line", or_null count line)
-    ∷ (codes "inlines", inlines_json inlines)
+    ∷ (codes "inlines", array_of inline_json inlines)
     ∷ (codes "missing_symbols", boolean is_missing)
     ∷ []
 

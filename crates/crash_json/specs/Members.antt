@@ -13,8 +13,8 @@ use Rattle.crash.specs.declared.contexts.CrashContext.{CrashContext}
 use Rattle.crash.specs.Contexts.{ContextValue, context_of}
 use Rattle.crash.specs.Crash.{crash_of}
 use Rattle.crash_symbols.specs.NameParts.{call_of}
-use Rattle.crash_symbols.specs.Shown.{shown_frame_of, symbolized_of}
-use Rattle.crash_json.specs.Tree.{array_of, count, hex_string, numbered_array_of, or_null, scalar_json}
+use Rattle.crash_symbols.specs.Shown.{symbolized_of}
+use Rattle.crash_json.specs.Tree.{array_of, count, hex_string, or_null, scalar_json}
 use Rattle.crash_json.specs.declared.cause.AddressMember.{AddressMember}
 use Rattle.crash_json.specs.declared.cause.AddressMember.TheVariants as address
 use Rattle.crash_json.specs.declared.cause.ExceptionMember.{ExceptionMember}
@@ -38,9 +38,9 @@ use Rattle.crash_json.specs.declared.threads.ThreadMember.{ThreadMember}
 use Rattle.crash_json.specs.declared.threads.ThreadMember.TheVariants as thread
 use Rattle.crash_json.specs.Cause.{address_json, crash_info_json, exception_json, memory_json}
 use Rattle.crash_json.specs.Cause.{sender_json}
-use Rattle.crash_json.specs.Crashpad.{annotations_json, crashpad_json, crashpad_modules_json}
+use Rattle.crash_json.specs.Crashpad.{annotations_json, crashpad_json, crashpad_module_json}
 use Rattle.crash_json.specs.Crashpad.{objects_json, texts_json}
-use Rattle.crash_json.specs.Frames.{frame_json, inlines_json, registers_json}
+use Rattle.crash_json.specs.Frames.{inline_json, registers_json}
 use Rattle.crash_json.specs.ReportValue.{ReportValue}
 use Rattle.crash_json.specs.Linux.{environment_json, proc_limits_json}
 use Rattle.crash_json.specs.Minidump.{damage_json, minidump_json, region_json, stream_json}
@@ -50,7 +50,7 @@ use Rattle.crash_json.specs.Records.{assertion_json, handles_json, kind_json, ma
 use Rattle.crash_json.specs.Records.{mac_record_json}
 use Rattle.crash_json.specs.SoftErrors.{soft_json}
 use Rattle.crash_json.specs.System.{release_json, system_json}
-use Rattle.crash_json.specs.Threads.{crashing_json, range_json, short_json, threads_json}
+use Rattle.crash_json.specs.Threads.{crashing_json, range_json, short_json}
 
 -- what a report is made of
 abbrev pub report_of : Report → ReportValue
@@ -69,15 +69,13 @@ context_in c = option_map context_of (option_copied c)
 abbrev pub frame_member : FrameMember → Json
 frame_member (frame.Scalar s) = scalar_json s
 frame_member (frame.Registers c) = or_null registers_json (context_in c)
-frame_member (frame.Inlines calls) = inlines_json (map call_of calls.now)
+frame_member (frame.Inlines calls) = array_of inline_json (map call_of calls.now)
 
 -- a member of a thread
 abbrev pub thread_member : ThreadMember → Json
 thread_member (thread.Scalar s) = scalar_json s
 thread_member (thread.Range r) = or_null range_json r
 thread_member (thread.Short s) = or_null short_json s
-thread_member (thread.Frames e frames) = numbered_array_of
-    (frame_json (report_of e.report) (context_in e.context)) (map shown_frame_of frames.now)
 
 -- a member of an exception
 abbrev pub exception_member : ExceptionMember → Json
@@ -110,7 +108,7 @@ crashpad_member (crashpad.Scalar s) = scalar_json s
 crashpad_member (crashpad.Texts texts) =
     annotations_json (entries_of string_bytes texts.now.entries)
 crashpad_member (crashpad.Modules modules) =
-    crashpad_modules_json (map module_of modules.now.items)
+    array_of crashpad_module_json (map module_of modules.now.items)
 
 -- a member of those of a module
 abbrev pub module_member : ModuleMember → Json
@@ -148,7 +146,6 @@ report_member (report.CrashInfo c) = crash_info_json (crash_of c.now)
 report_member (report.Modules r) =
     modules_json (report_of r).symbols (crash_of r.crash.now).modules.loaded
 report_member (report.Unloaded c) = array_of unloaded_json (crash_of c.now).modules.unloaded
-report_member (report.Threads r) = threads_json (report_of r)
 report_member (report.Crashing r) = crashing_json (report_of r)
 report_member (report.Release c) = or_null release_json (crash_of c.now).process.release
 report_member (report.MacCrash c) =

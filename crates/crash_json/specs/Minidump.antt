@@ -25,30 +25,21 @@ use Rattle.crash_json.specs.Threads.{registers_of}
 -- ---- streams
 
 -- a stream by its type, the name of that, where its bytes are, and the name of its error
-unfoldable pub stream_object : ℕ → Option (List ℕ) → ℕ → ℕ → Option (List ℕ) → Json
-stream_object number name size rva error = object_of (
-    (codes "type", hex_string number)
-    ∷ (codes "name", or_null string name)
-    ∷ (codes "size", count size)
-    ∷ (codes "rva", hex_string rva)
-    ∷ (codes "error", or_null string error)
+unfoldable pub stream_json : StreamEntry → Json
+stream_json s = object_of (
+    (codes "type", hex_string s.number)
+    ∷ (codes "name", or_null string (option_map type_name (stream_type_of s.number)))
+    ∷ (codes "size", count s.size)
+    ∷ (codes "rva", hex_string s.rva)
+    ∷ (codes "error", or_null string (option_map name_of_error s.error))
     ∷ [])
-
--- a stream
-abbrev pub stream_json : StreamEntry → Json
-stream_json s = stream_object s.number (option_map type_name (stream_type_of s.number)) s.size s.rva
-    (option_map name_of_error s.error)
 
 -- ---- memory
 
--- a region by its first address and its size
-unfoldable pub region_object : ℕ → ℕ → Json
-region_object base size =
-    object_of ((codes "base_addr", hex_string base) ∷ (codes "size", count size) ∷ [])
-
--- a region of memory
-abbrev pub region_json : UnifiedRegion → Json
-region_json r = region_object r.base_address r.size
+-- a region of memory by its first address and its size
+unfoldable pub region_json : UnifiedRegion → Json
+region_json r = object_of (
+    (codes "base_addr", hex_string r.base_address) ∷ (codes "size", count r.size) ∷ [])
 
 -- ---- damage
 
@@ -79,13 +70,12 @@ damage_json (Stack id) = damage_object (codes "stack") None (Some id) None
 abbrev pub unless_zero : ℕ → Option ℕ
 unless_zero n = if n == 0 then None else Some n
 
--- the process by whether its environment is asked for, when the dump was written, and the id of its
--- parent
-unfoldable pub process_part : Bool → CrashValue → Option ℕ → Option ℕ → List (List ℕ × Json)
-process_part environment c written parent =
-    (codes "written", or_null count written)
+-- the process, with its environment where that is asked for
+unfoldable pub process_members : Bool → CrashValue → List (List ℕ × Json)
+process_members environment c =
+    (codes "written", or_null count (unless_zero c.directory.written))
     ∷ (codes "uptime", or_null count c.process.uptime)
-    ∷ (codes "parent_process_id", or_null count parent)
+    ∷ (codes "parent_process_id", or_null count c.process.parent)
     ∷ (codes "resident_size", or_null count c.process.resident)
     ∷ (codes "command_line", or_null string c.process.command_line)
     ∷ (codes "environment", environment_json environment c.contents.process.environ)
@@ -93,10 +83,10 @@ process_part environment c written parent =
     ∷ (codes "wide_comment", or_null string c.process.comments.wide)
     ∷ []
 
--- what the dump holds, and what of it can't be read, by the status with which it ends a program
-unfoldable pub file_part : CrashValue → ℕ → List (List ℕ × Json)
-file_part c status =
-    (codes "status", count status)
+-- what the dump holds, and what of it can't be read
+unfoldable pub file_members : CrashValue → List (List ℕ × Json)
+file_members c =
+    (codes "status", count (status_of (Ok c)))
     ∷ (codes "streams", array_of stream_json c.directory.entries)
     ∷ (codes "entries_outside", count c.directory.entries_outside)
     ∷ (codes "memory", array_of region_json (unified_regions c.contents.space.memory))
@@ -104,27 +94,26 @@ file_part c status =
     ∷ (codes "unreadable_modules", array_of unreadable_json c.modules.unreadable)
     ∷ []
 
--- the crash by its signature, and the word for whose context the registers are of; then the kinds of
--- handles, the assertion and Crashpad's annotations
-unfoldable pub crash_part : CrashValue → Option (List ℕ) → Option (List ℕ) → List (List ℕ × Json)
-crash_part c signature origin =
+-- what is known of the crash by its signature; then the kinds of handles, the assertion and
+-- Crashpad's annotations
+unfoldable pub signed_members : CrashValue → Option (List ℕ) → List (List ℕ × Json)
+signed_members c signature =
     (codes "address", or_null address_json c.cause.address)
     ∷ (codes "point", or_null point_json c.point)
     ∷ (codes "exceptions", array_of exception_json c.cause.exceptions)
     ∷ (codes "exception", or_null count c.cause.counts)
     ∷ (codes "signature", or_null string signature)
-    ∷ (codes "registers_of", or_null string origin)
+    ∷ (codes "registers_of", or_null string (registers_of c.threads))
     ∷ (codes "handle_kinds", array_of kind_json c.process.handle_kinds)
     ∷ (codes "assertion", or_null assertion_json (result_ok c.contents.messages.assertion))
     ∷ (codes "crashpad", or_null crashpad_json (result_ok c.contents.messages.crashpad))
     ∷ []
 
--- the members
-abbrev pub minidump_members : ReportValue → List (List ℕ × Json)
-minidump_members r = let c = r.crash in
-    process_part r.limits.environment c (unless_zero c.directory.written) c.process.parent
-    ++ (file_part c (status_of (Ok c)) ++ crash_part c (signature_in r) (registers_of c.threads))
+-- the same by what the line is made of
+abbrev pub signature_members : ReportValue → List (List ℕ × Json)
+signature_members r = signed_members r.crash (signature_in r)
 
 -- what the schema has no member for
 abbrev pub minidump_json : ReportValue → Json
-minidump_json r = object_of (minidump_members r)
+minidump_json r = object_of (process_members r.limits.environment r.crash
+    ++ (file_members r.crash ++ signature_members r))

@@ -12,9 +12,9 @@ use Rattle.crash_symbols.specs.Shown.{SymbolizedValue}
 use Rattle.crash_symbols.specs.Symbols.{are_loaded, state_at}
 use Rattle.crash_json.specs.Tree.{count, hex_string, numbered_array_of, object_of, or_null}
 
--- the members of a module
-unfoldable pub module_object : LoadedValue → List (List ℕ × Json)
-module_object m =
+-- the members of a module but what is known of its symbols
+unfoldable pub module_members : LoadedValue → List (List ℕ × Json)
+module_members m =
     (codes "base_addr", hex_string m.base)
     ∷ (codes "end_addr", or_null hex_string m.end)
     ∷ (codes "filename", string m.file)
@@ -60,7 +60,7 @@ symbol_members None index = []
 
 -- a module by its index
 abbrev pub module_json : Option SymbolizedValue → ℕ → LoadedValue → Json
-module_json symbols index m = object_of (module_object m ++ symbol_members symbols index)
+module_json symbols index m = object_of (module_members m ++ symbol_members symbols index)
 
 -- the modules
 unfoldable pub modules_json : Option SymbolizedValue → List LoadedValue → Json
@@ -73,18 +73,14 @@ abbrev pub part_name : ModulePart → List ℕ
 part_name Name = codes "name"
 part_name CodeView = codes "code_view"
 
--- a module of which a part can't be read, by the word for the part
-unfoldable pub unreadable_object : UnreadableModule → List ℕ → Json
-unreadable_object m part = object_of (
+-- a module of which a part can't be read
+unfoldable pub unreadable_json : UnreadableModule → Json
+unreadable_json m = object_of (
     (codes "index", count m.index)
     ∷ (codes "base_addr", hex_string m.base)
     ∷ (codes "size", count m.size)
-    ∷ (codes "part", string part)
+    ∷ (codes "part", string (part_name m.part))
     ∷ [])
-
--- the same by its value
-abbrev pub unreadable_json : UnreadableModule → Json
-unreadable_json m = unreadable_object m (part_name m.part)
 
 -- ---- others
 

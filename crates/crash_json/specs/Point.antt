@@ -1,5 +1,5 @@
 -- Where the thread that crashed stands, as JSON.
-use Rattle.std.specs.Prelude.{ℕ, List, [], ◌∷◌, codes, filter, Option}
+use Rattle.std.specs.Prelude.{ℕ, List, [], ◌∷◌, codes, filter}
 use Rattle.std.specs.Option.{option_map}
 use Rattle.json.specs.Json.{Json, string}
 use Rattle.crash.specs.declared.addresses.AddressFacts.{AddressFacts}
@@ -10,18 +10,14 @@ use Rattle.crash_json.specs.Tree.{array_of, count, hex_string, object_of, or_nul
 use Rattle.crash_json.specs.Cause.{address_json, address_members}
 use Rattle.crash_json.specs.Frames.{register_members}
 
--- a word by the index of the module that contains its value, and the offset in that
-unfoldable pub word_object : StackWord → Option ℕ → Option ℕ → Json
-word_object w index offset = object_of (
+-- a word of a stack, with the module that contains its value
+unfoldable pub word_json : StackWord → Json
+word_json w = object_of (
     (codes "address", hex_string w.address)
     ∷ (codes "value", hex_string w.value)
-    ∷ (codes "module", or_null count index)
-    ∷ (codes "module_offset", or_null hex_string offset)
+    ∷ (codes "module", or_null count (option_map (λ p. p.0) w.module))
+    ∷ (codes "module_offset", or_null hex_string (option_map (λ p. p.1) w.module))
     ∷ [])
-
--- a word of a stack
-abbrev pub word_json : StackWord → Json
-word_json w = word_object w (option_map (λ p. p.0) w.module) (option_map (λ p. p.1) w.module)
 
 -- a register by its name, and what is known of its value as an address
 abbrev pub register_json : List ℕ × AddressFacts → Json

@@ -14,16 +14,12 @@ use Rattle.crash_json.specs.Tree.{array_of, count, hex_string, object_of, or_nul
 -- ---- handles
 
 -- a handle by its value and its names
-unfoldable pub handle_object : Option ℕ → Option (List ℕ) → Option (List ℕ) → Json
-handle_object value type_name object_name = object_of (
-    (codes "handle", or_null hex_string value)
-    ∷ (codes "type_name", or_null string type_name)
-    ∷ (codes "object_name", or_null string object_name)
+unfoldable pub handle_json : Handle → Json
+handle_json h = object_of (
+    (codes "handle", or_null hex_string (handle h.raw))
+    ∷ (codes "type_name", or_null string h.type_name)
+    ∷ (codes "object_name", or_null string h.object_name)
     ∷ [])
-
--- a handle
-abbrev pub handle_json : Handle → Json
-handle_json h = handle_object (handle h.raw) h.type_name h.object_name
 
 -- the handles
 abbrev pub handles_json : List Handle → Json
@@ -36,38 +32,25 @@ kind_json k = object_of (
 
 -- ---- macOS's crash information
 
--- a record of macOS's crash information by its numbers and its texts
-unfoldable pub mac_object : Option ℕ → Option ℕ → Option ℕ → Option (List ℕ) → Option (List ℕ)
-    → Option (List ℕ) → Option (List ℕ) → Option (List ℕ) → Json
-mac_object thread dialog_mode abort_cause module_path message signature backtrace message2 =
-    object_of (
-    (codes "thread", or_null hex_string thread)
-    ∷ (codes "dialog_mode", or_null hex_string dialog_mode)
-    ∷ (codes "abort_cause", or_null hex_string abort_cause)
-    ∷ (codes "module", or_null string module_path)
-    ∷ (codes "message", or_null string message)
-    ∷ (codes "signature_string", or_null string signature)
-    ∷ (codes "backtrace", or_null string backtrace)
-    ∷ (codes "message2", or_null string message2)
-    ∷ [])
-
 -- a record of macOS's crash information
-abbrev pub mac_record_json : MacRecord → Json
-mac_record_json r = mac_object (mac.thread r) (mac.dialog_mode r) (mac.abort_cause r)
-    (text_of (λ t. t.module_path) r) (text_of (λ t. t.message) r)
-    (text_of (λ t. t.signature_string) r) (text_of (λ t. t.backtrace) r)
-    (text_of (λ t. t.message2) r)
-
--- so many records, and the records
-unfoldable pub mac_members : ℕ → List MacRecord → Json
-mac_members how_many records = object_of (
-    (codes "num_records", count how_many)
-    ∷ (codes "records", array_of mac_record_json records)
+unfoldable pub mac_record_json : MacRecord → Json
+mac_record_json r = object_of (
+    (codes "thread", or_null hex_string (mac.thread r))
+    ∷ (codes "dialog_mode", or_null hex_string (mac.dialog_mode r))
+    ∷ (codes "abort_cause", or_null hex_string (mac.abort_cause r))
+    ∷ (codes "module", or_null string (text_of (λ t. t.module_path) r))
+    ∷ (codes "message", or_null string (text_of (λ t. t.message) r))
+    ∷ (codes "signature_string", or_null string (text_of (λ t. t.signature_string) r))
+    ∷ (codes "backtrace", or_null string (text_of (λ t. t.backtrace) r))
+    ∷ (codes "message2", or_null string (text_of (λ t. t.message2) r))
     ∷ [])
 
 -- the crash information of macOS
-abbrev pub mac_crash_json : List MacRecord → Json
-mac_crash_json records = mac_members (length records) records
+unfoldable pub mac_crash_json : List MacRecord → Json
+mac_crash_json records = object_of (
+    (codes "num_records", count (length records))
+    ∷ (codes "records", array_of mac_record_json records)
+    ∷ [])
 
 -- ---- an assertion
 

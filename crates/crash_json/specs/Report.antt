@@ -24,62 +24,40 @@ abbrev pub path_members : Option (List ℕ) → List (List ℕ × Json)
 path_members None = []
 path_members (Some path) = (codes "path", string path) ∷ []
 
--- the system, the crash and the modules, by the index of the main module
-unfoldable pub crash_object : ReportValue → Option ℕ → List (List ℕ × Json)
-crash_object r main =
+-- the system, the crash and the modules, and the process with the number of its threads
+unfoldable pub crash_members : ReportValue → List (List ℕ × Json)
+crash_members r = let c = r.crash in
     (codes "status", string (codes "OK"))
-    ∷ (codes "system_info", or_null system_json r.crash.process.system)
-    ∷ (codes "crash_info", crash_info_json r.crash)
-    ∷ (codes "main_module", or_null count main)
-    ∷ (codes "modules", modules_json r.symbols r.crash.modules.loaded)
-    ∷ (codes "unloaded_modules", array_of unloaded_json r.crash.modules.unloaded)
+    ∷ (codes "system_info", or_null system_json c.process.system)
+    ∷ (codes "crash_info", crash_info_json c)
+    ∷ (codes "main_module", or_null count (main_module c.modules.loaded))
+    ∷ (codes "modules", modules_json r.symbols c.modules.loaded)
+    ∷ (codes "unloaded_modules", array_of unloaded_json c.modules.unloaded)
+    ∷ (codes "pid", or_null count c.process.id)
+    ∷ (codes "thread_count", count (length c.threads.threads))
     ∷ []
 
--- the system, the crash and the modules
-abbrev pub crash_members : ReportValue → List (List ℕ × Json)
-crash_members r = crash_object r (main_module r.crash.modules.loaded)
-
--- the process by its id, and its threads, of which there are so many
-unfoldable pub process_object : ReportValue → Option ℕ → ℕ → List (List ℕ × Json)
-process_object r id how_many =
-    (codes "pid", or_null count id)
-    ∷ (codes "thread_count", count how_many)
-    ∷ (codes "threads", threads_json r)
-    ∷ (codes "crashing_thread", crashing_json r)
-    ∷ []
-
--- the process and its threads
-abbrev pub process_members : ReportValue → List (List ℕ × Json)
-process_members r = process_object r r.crash.process.id (length r.crash.threads.threads)
-
--- what single streams hold, with the arguments of macOS's boot and the soft errors, and what the
--- schema has no member for
-unfoldable pub record_object : ReportValue → Option (List ℕ) → Option (List ℕ) → List (List ℕ × Json)
-record_object r boot_args soft_errors = let c = r.crash in
-    (codes "lsb_release", or_null release_json c.process.release)
-    ∷ (codes "mac_crash_info", or_null mac_crash_json (result_ok c.contents.messages.mac_crash_info))
-    ∷ (codes "mac_boot_args", or_null string boot_args)
+-- the thread that crashed, what single streams hold, and what the schema has no member for
+unfoldable pub record_members : ReportValue → List (List ℕ × Json)
+record_members r = let c = r.crash in let messages = c.contents.messages in
+    (codes "crashing_thread", crashing_json r)
+    ∷ (codes "lsb_release", or_null release_json c.process.release)
+    ∷ (codes "mac_crash_info", or_null mac_crash_json (result_ok messages.mac_crash_info))
+    ∷ (
+      codes "mac_boot_args",
+      or_null string (option_and_then (λ b. b.text) (result_ok messages.mac_boot_args)),
+    )
     ∷ (codes "handles", or_null handles_json (result_ok c.contents.process.handles))
-    ∷ (codes "soft_errors", or_null soft_json soft_errors)
+    ∷ (codes "soft_errors", or_null soft_json (result_ok messages.soft_errors))
     ∷ (codes "linux_memory_map_count", or_null count c.contents.space.map_count)
     ∷ (codes "proc_limits", proc_limits_json c.contents.process.limits)
     ∷ (codes "minidump", minidump_json r)
     ∷ []
 
--- what single streams hold, and what the schema has no member for
-abbrev pub record_members : ReportValue → List (List ℕ × Json)
-record_members r = let messages = r.crash.contents.messages in
-    record_object r (option_and_then (λ b. b.text) (result_ok messages.mac_boot_args))
-    (result_ok messages.soft_errors)
-
--- all members
-abbrev pub all_members : ReportValue → List (List ℕ × Json)
-all_members r =
-    path_members r.path ++ (crash_members r ++ (process_members r ++ record_members r))
-
 -- the line by what it is made of
 abbrev pub line_json : ReportValue → Json
-line_json r = object_of (all_members r)
+line_json r = object_of (path_members r.path
+    ++ (crash_members r ++ ((codes "threads", threads_json r) ∷ record_members r)))
 
 -- a crash, with the path of its file, where it has one, and with symbols, where they are known
 abbrev pub json_of : JsonLimits → Option (List ℕ) → Option SymbolizedValue → CrashValue → Json

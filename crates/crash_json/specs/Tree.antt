@@ -85,14 +85,6 @@ member_tokens m = Token.key m.0 ∷ json_tokens m.1
 unfoldable pub member_list_tokens : List (List ℕ × Json) → List Token
 member_list_tokens ms = flat_map member_tokens ms
 
--- those of the values of items, one after another, without brackets
-abbrev pub item_tokens : {X : Type 0} → (X → Json) → List X → List Token
-item_tokens json xs = flat_map (λ x. json_tokens (json x)) xs
-
--- the same by the items' numbers
-abbrev pub numbered_tokens : {X : Type 0} → (ℕ → X → Json) → List X → List Token
-numbered_tokens json xs = item_tokens (λ p. json p.0 p.1) (enumerate_from 0 xs)
-
 -- the tokens of a value come after those that were there; or memory ran out
 pub record Puts (r : Result (Unit {0}) Error) (old new : Written) (j : Json) : Type 0 where
   pub tokens : OnOk r (new.tokens ≡ old.tokens ++ json_tokens j)

@@ -1,15 +1,14 @@
 //! Where and why a process crashed: the crash, the exceptions, and the address.
-ghost use Rattle.std.specs.Prelude.{◌≡◌, IfOk, IsOkUnless, Ok, string_bytes};
+ghost use Rattle.std.specs.Prelude.{◌≡◌, IfOk, IsOkUnless, string_bytes};
 ghost use Rattle.std.specs.Option.{option_and_then, option_copied, option_map};
 ghost use Rattle.minidump.specs.Below.Contexts.Context.{map_ok};
 ghost use Rattle.minidump.specs.Promise.{assertion_stream};
 ghost use Rattle.crash.specs.Cause.{cause_of, counted_exception, exception_of};
 ghost use Rattle.crash.specs.Crash.{crash_of};
 ghost use Rattle.crash_json.specs.Tree.{Adds, Puts};
-ghost use Rattle.crash_json.specs.Cause.{access_name, address_members};
-ghost use Rattle.crash_json.specs.Cause.{crash_info_json, crash_object, exception_json};
-ghost use Rattle.crash_json.specs.Cause.{exception_object};
-ghost use Rattle.crash_json.specs.Cause.{expression_in, problem_name, state_name, unread_object};
+ghost use Rattle.crash_json.specs.Cause.{access_name, address_members, crash_info_json};
+ghost use Rattle.crash_json.specs.Cause.{crash_object, expression_in, problem_name, read_json};
+ghost use Rattle.crash_json.specs.Cause.{state_name, unread_json};
 
 use crate::frames::{index_of, offset_of};
 use crate::tree::{Members, Put, Scalar, ToJson, as_text, put_array, put_or_null};
@@ -102,32 +101,15 @@ impl ToJson for Result<CrashException, Error> {
     }
 }
 
-fn put_read(out: &mut Writer, alloc: Global, exception: &CrashException) -> Put
-    ensures { Puts result out.old out.new (exception_json (Ok (exception_of exception.now))) }
-{
-    put_record(
-        out,
-        alloc,
-        exception,
-        exception.parameters.as_slice(),
-        access_name(exception.access),
-        problem_name(exception.context_problem),
-    )
-}
-
+// Puts an exception that can be read.
 #[rattlefmt::skip]
-#[tactic(auto, unfolding(crate::specs::Cause::exception_object))]
-fn put_record<'l>(
-    out: &mut Writer,
-    alloc: Global,
-    exception: &'l CrashException,
-    parameters: &'l [u64],
-    access: Option<&'l str>,
-    problem: Option<&'l str>,
-) -> Put
-    ensures { Puts result out.old out.new (exception_object (exception_of exception.now)
-        parameters.now (option_copied access.entry) (option_copied problem.entry)) }
+#[tactic(auto, unfolding(crate::specs::Cause::read_json))]
+fn put_read(out: &mut Writer, alloc: Global, exception: &CrashException) -> Put
+    ensures { Puts result out.old out.new (read_json (exception_of exception.now)) }
 {
+    let parameters = exception.parameters.as_slice();
+    let access = access_name(exception.access);
+    let problem = problem_name(exception.context_problem);
     Members(&[
         ("thread_id", ExceptionMember::Scalar(Scalar::Number(Some(exception.thread as u64)))),
         ("code", ExceptionMember::Scalar(Scalar::Hex(Some(exception.code as u64)))),
@@ -184,7 +166,7 @@ impl ToJson for Sender {
 
     ghost json = { sender_json };
 
-    #[tactic(auto, unfolding(crate::specs::Cause::sender_object))]
+    #[tactic(auto, unfolding(crate::specs::Cause::sender_json))]
     fn put(&self, out: &mut Writer, alloc: Global) -> Put {
         Members(&[
             ("process_id", Scalar::Number(widened(self.process))),
@@ -202,9 +184,10 @@ pub(crate) fn widened(number: Option<u32>) -> Option<u64>
     Some(number? as u64)
 }
 
-#[tactic(auto, unfolding(crate::specs::Cause::unread_object))]
+// Puts one that can't be read.
+#[tactic(auto, unfolding(crate::specs::Cause::unread_json))]
 fn put_unread(out: &mut Writer, alloc: Global, error: &str) -> Put
-    ensures { Puts result out.old out.new (unread_object error.now) }
+    ensures { Puts result out.old out.new (unread_json error.now) }
 {
     Members(&[
         ("thread_id", Scalar::Null),
@@ -305,7 +288,7 @@ impl ToJson for AddressMemory {
 
     ghost json = { memory_json };
 
-    #[tactic(auto, unfolding(crate::specs::Cause::memory_object))]
+    #[tactic(auto, unfolding(crate::specs::Cause::memory_json))]
     fn put(&self, out: &mut Writer, alloc: Global) -> Put {
         Members(&[
             ("state", Scalar::Text(Some(state_name(self.state)))),

@@ -2,13 +2,13 @@
 ghost use Rattle.std.specs.Prelude.{◌≡◌, IfOk, map, string_bytes};
 ghost use Rattle.minidump.specs.Below.Records.Annotations.{annotation_of};
 ghost use Rattle.minidump.specs.Below.Records.Crashpad.{crashpad_info_of};
-ghost use Rattle.minidump.specs.Below.Records.CrashpadText.{annotation_text};
 ghost use Rattle.minidump.specs.Below.Records.Dictionary.{entries_of};
 ghost use Rattle.crash_json.specs.Tree.{Puts};
 ghost use Rattle.crash_json.specs.Crashpad.{annotation_json, annotations_json, crashpad_object};
 ghost use Rattle.crash_json.specs.Crashpad.{objects_json};
 
 use crate::tree::{Members, Put, Scalar, ToJson, put_array};
+use crash::annotation_text;
 use json::Writer;
 use minidump::{MinidumpAnnotation, MinidumpCrashpadInfo, MinidumpModuleCrashpadInfo};
 use std::alloc::{AllocError, Global};
@@ -215,17 +215,5 @@ impl<'l> ToJson for (&'l String, &'l MinidumpAnnotation) {
 
     fn put(&self, out: &mut Writer, alloc: Global) -> Put {
         put_annotation(out, alloc, self.0.as_str(), annotation_text(self.1))
-    }
-}
-
-// Returns the text of an annotation, or the kind of any other.
-fn annotation_text(annotation: &MinidumpAnnotation) -> &str
-    ensures { result.now ≡ annotation_text (annotation_of annotation.now) }
-{
-    match annotation {
-        MinidumpAnnotation::Invalid => "<invalid>",
-        MinidumpAnnotation::String(text) => text.as_str(),
-        MinidumpAnnotation::UserDefined(_) => "<user defined>",
-        MinidumpAnnotation::Unsupported(_) => "<unsupported>",
     }
 }

@@ -1,16 +1,15 @@
 //! What a minidump says that the schema has no member for.
-ghost use Rattle.std.specs.Prelude.{◌≡◌, IfOk, Ok, map};
+ghost use Rattle.std.specs.Prelude.{◌≡◌, Ok};
 ghost use Rattle.std.specs.Option.{option_copied, option_map};
 ghost use Rattle.minidump.specs.Below.Format.Error.{name_of_error};
 ghost use Rattle.minidump.specs.Below.Format.StreamType.{stream_type_of, type_name};
-ghost use Rattle.minidump.specs.Below.MemoryLists.Unified.{unified_list, unified_region};
-ghost use Rattle.minidump.specs.Below.MemoryLists.Unified.{unified_regions};
+ghost use Rattle.minidump.specs.Below.MemoryLists.Unified.{unified_list, unified_regions};
 ghost use Rattle.crash.specs.Crash.{crash_of, status_of};
 ghost use Rattle.crash_json.specs.Tree.{Adds, Puts, array_of};
 ghost use Rattle.crash_json.specs.Members.{report_of};
-ghost use Rattle.crash_json.specs.Minidump.{crash_part, damage_object, file_part, minidump_json};
-ghost use Rattle.crash_json.specs.Minidump.{minidump_members, process_part, region_json};
-ghost use Rattle.crash_json.specs.Minidump.{unless_zero};
+ghost use Rattle.crash_json.specs.Minidump.{damage_object, file_members, minidump_json};
+ghost use Rattle.crash_json.specs.Minidump.{process_members, region_json, signature_members};
+ghost use Rattle.crash_json.specs.Minidump.{signed_members, unless_zero};
 
 use crate::cause::widened;
 use crate::linux::put_environment;
@@ -18,37 +17,22 @@ use crate::report::Report;
 use crate::signature::signature_in;
 use crate::threads::registers_of;
 use crate::tree::{Members, Put, Scalar, ToJson, as_text, put_array, put_found, put_or_null};
-use crash::{Crash, Damage, StreamEntry};
+use crash::{Crash, Damage, StreamEntry, regions_of};
 use json::Writer;
 use minidump::format::MINIDUMP_STREAM_TYPE;
 use minidump::{Error, UnifiedMemory, UnifiedMemoryList};
-use std::alloc::{AllocError, Global};
+use std::alloc::Global;
 
 /// Puts what a minidump says that the schema has no member for, with the environment if it is asked
 /// for.
-#[tactic(auto, using(crate::proofs::Tokens::object_of_members))]
 pub(crate) fn put_minidump(out: &mut Writer, alloc: Global, report: Report<'_, '_, '_, '_>) -> Put
     ensures { Puts result out.old out.new (minidump_json (report_of report.entry)) }
 {
     out.begin_object()?;
-    put_parts(out, alloc, report)?;
+    put_process(out, alloc, report.limits.environment, report.crash)?;
+    put_file(out, alloc, report.crash)?;
+    put_crash(out, alloc, report)?;
     out.end_object()?;
-    Ok(())
-}
-
-// Adds the members, a part at a time.
-fn put_parts(out: &mut Writer, alloc: Global, report: Report<'_, '_, '_, '_>) -> Put
-    ensures { Adds result out.old out.new (minidump_members (report_of report.entry)) }
-{
-    let crash = report.crash;
-    let environment = report.limits.environment;
-    let written = unless_zero(crash.directory.written);
-    let parent = widened(crash.process.parent);
-    put_process(out, alloc, environment, crash, written, parent)?;
-    put_file(out, alloc, crash, status_of(crash))?;
-    let signature = signature_in(alloc, report)?;
-    let origin = registers_of(&crash.threads);
-    put_crash(out, alloc, crash, as_text(&signature), origin)?;
     Ok(())
 }
 
@@ -66,19 +50,14 @@ fn status_of(crash: &Crash<'_>) -> u64
     if crash.damage.is_empty() { 0 } else { 1 }
 }
 
+// Adds the process, with its environment if it is asked for.
 #[rattlefmt::skip]
-#[tactic(auto, unfolding(crate::specs::Minidump::process_part))]
-fn put_process(
-    out: &mut Writer,
-    alloc: Global,
-    environment: bool,
-    crash: &Crash<'_>,
-    written: Option<u64>,
-    parent: Option<u64>,
-) -> Put
-    ensures { Adds result out.old out.new
-        (process_part environment (crash_of crash.now) written parent) }
+#[tactic(auto, unfolding(crate::specs::Minidump::process_members))]
+fn put_process(out: &mut Writer, alloc: Global, environment: bool, crash: &Crash<'_>) -> Put
+    ensures { Adds result out.old out.new (process_members environment (crash_of crash.now)) }
 {
+    let written = unless_zero(crash.directory.written);
+    let parent = widened(crash.process.parent);
     Members(&[
         ("written", Member::Scalar(Scalar::Number(written))),
         ("uptime", Member::Scalar(Scalar::Number(crash.process.uptime))),
@@ -92,13 +71,15 @@ fn put_process(
     .add(out, alloc)
 }
 
-#[tactic(auto, unfolding(crate::specs::Minidump::file_part))]
-fn put_file(out: &mut Writer, alloc: Global, crash: &Crash<'_>, status: u64) -> Put
-    ensures { Adds result out.old out.new (file_part (crash_of crash.now) status) }
+// Adds what the dump holds, and what of it can't be read.
+#[tactic(auto, unfolding(crate::specs::Minidump::file_members))]
+fn put_file(out: &mut Writer, alloc: Global, crash: &Crash<'_>) -> Put
+    ensures { Adds result out.old out.new (file_members (crash_of crash.now)) }
 {
+    let status = Scalar::Number(Some(status_of(crash)));
     let outside = Scalar::Number(Some(crash.directory.entries_outside));
     Members(&[
-        ("status", Member::Scalar(Scalar::Number(Some(status)))),
+        ("status", Member::Scalar(status)),
         ("streams", Member::Streams(crash)),
         ("entries_outside", Member::Scalar(outside)),
         ("memory", Member::Memory(crash)),
@@ -108,25 +89,36 @@ fn put_file(out: &mut Writer, alloc: Global, crash: &Crash<'_>, status: u64) -> 
     .add(out, alloc)
 }
 
-#[tactic(auto, unfolding(crate::specs::Minidump::crash_part))]
-fn put_crash<'l>(
+// Adds what is known of the crash, the kinds of handles, the assertion and Crashpad's annotations.
+fn put_crash(out: &mut Writer, alloc: Global, report: Report<'_, '_, '_, '_>) -> Put
+    ensures { Adds result out.old out.new (signature_members (report_of report.entry)) }
+{
+    let signature = signature_in(alloc, report)?;
+    put_signed(out, alloc, report.crash, as_text(&signature))
+}
+
+// Adds the same by the signature of the crash.
+#[tactic(auto, unfolding(crate::specs::Minidump::signed_members))]
+fn put_signed<'l>(
     out: &mut Writer,
     alloc: Global,
     crash: &'l Crash<'_>,
     signature: Option<&'l str>,
-    origin: Option<&'l str>,
 ) -> Put
-    ensures { Adds result out.old out.new (crash_part (crash_of crash.now)
-        (option_copied signature.entry) (option_copied origin.entry)) }
+    ensures { Adds result out.old out.new
+        (signed_members (crash_of crash.now) (option_copied signature.entry)) }
 {
-    let counts = Scalar::Count(crash.cause.counts);
+    let origin = Scalar::Text(registers_of(&crash.threads));
     Members(&[
         ("address", Member::Address(crash)),
         ("point", Member::Point(crash)),
         ("exceptions", Member::Exceptions(crash)),
-        ("exception", Member::Scalar(counts)),
+        (
+            "exception",
+            Member::Scalar(Scalar::Count(crash.cause.counts)),
+        ),
         ("signature", Member::Scalar(Scalar::Text(signature))),
-        ("registers_of", Member::Scalar(Scalar::Text(origin))),
+        ("registers_of", Member::Scalar(origin)),
         ("handle_kinds", Member::Kinds(crash)),
         ("assertion", Member::Assertion(crash)),
         ("crashpad", Member::Crashpad(crash)),
@@ -190,7 +182,7 @@ impl ToJson for StreamEntry {
 
     ghost json = { stream_json };
 
-    #[tactic(auto, unfolding(crate::specs::Minidump::stream_object))]
+    #[tactic(auto, unfolding(crate::specs::Minidump::stream_json))]
     fn put(&self, out: &mut Writer, alloc: Global) -> Put {
         Members(&[
             ("type", Scalar::Hex(Some(self.number as u64))),
@@ -229,24 +221,13 @@ fn put_memory(out: &mut Writer, alloc: Global, memory: &UnifiedMemoryList<'_>) -
     put_array(out, alloc, regions.as_slice())
 }
 
-// Returns the regions of memory.
-fn regions_of<'l, 'a>(
-    alloc: Global,
-    memory: &'l UnifiedMemoryList<'a>,
-) -> Result<Vec<UnifiedMemory<'l, 'a>>, AllocError>
-    ensures { IfOk result
-        (λ regions. map unified_region regions.items ≡ unified_regions (unified_list memory.now)) }
-{
-    memory.iter().collect(alloc)
-}
-
 impl<'l, 'a> ToJson for UnifiedMemory<'l, 'a> {
     ghost use Rattle.minidump.specs.Below.MemoryLists.Unified.{unified_region};
     ghost use Rattle.crash_json.specs.Minidump.{region_json};
 
     ghost json = { λ r. region_json (unified_region r) };
 
-    #[tactic(auto, unfolding(crate::specs::Minidump::region_object))]
+    #[tactic(auto, unfolding(crate::specs::Minidump::region_json))]
     fn put(&self, out: &mut Writer, alloc: Global) -> Put {
         Members(&[
             ("base_addr", Scalar::Hex(Some(self.base_address()))),

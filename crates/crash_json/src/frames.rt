@@ -1,18 +1,19 @@
 //! The frames of a thread, the registers of the first one, and the names that symbols give.
-ghost use Rattle.std.specs.Prelude.{◌≡◌, ◌++◌, IfOk, map, string_bytes};
+ghost use Rattle.std.specs.Prelude.{◌≡◌, IfOk, map, string_bytes};
 ghost use Rattle.std.specs.Option.{option_copied, option_map};
 ghost use Rattle.minidump_bytes.specs.LinuxOsStr.{text_of};
 ghost use Rattle.crash.specs.Crash.{crash_of};
 ghost use Rattle.crash_symbols.specs.NameParts.{call_of, source_of};
 ghost use Rattle.crash_symbols.specs.Shown.{shown_frame_of, symbolized_of};
-ghost use Rattle.crash_json.specs.Tree.{Adds, Puts, field_of, numbered_array_of, object_of, or_null};
+ghost use Rattle.crash_json.specs.Tree.{Adds, Puts, field_of, object_of, or_null};
 ghost use Rattle.crash_json.specs.Members.{context_in, report_of};
-ghost use Rattle.crash_json.specs.Frames.{file_at, frame_json, inline_object, known_members, lossy};
+ghost use Rattle.crash_json.specs.Frames.{file_at, inline_object, known_members, lossy};
 ghost use Rattle.crash_json.specs.Frames.{name_members, name_object, of_first, place_members};
-ghost use Rattle.crash_json.specs.Frames.{register_members, registers_json, source_file, source_line, trust_name};
+ghost use Rattle.crash_json.specs.Frames.{register_members, registers_json, source_file};
+ghost use Rattle.crash_json.specs.Frames.{source_line, trust_name};
 
 use crate::report::Report;
-use crate::tree::{Members, NumberedJson, Put, Scalar, ToJson, put_array, put_numbered_array};
+use crate::tree::{Members, NumberedJson, Put, Scalar, ToJson, put_array};
 use crash::{Crash, CrashContext, CrashFrame};
 use crash_symbols::{FrameFunction, InlinedCall, ShownFrame, SourceLine, Symbolized};
 use json::Writer;
@@ -36,7 +37,6 @@ impl<'s, 'n> NumberedJson<ShownFrame<'s, 'n>> for EachFrame<'_, '_, '_, '_> {
     ghost json_at = { λ e n f. frame_json (report_of e.report) (context_in e.context) n
         (shown_frame_of f) };
 
-    #[tactic(auto, using(crate::proofs::Tokens::object_of_members))]
     fn put_at(
         &self,
         number: usize,
@@ -45,47 +45,16 @@ impl<'s, 'n> NumberedJson<ShownFrame<'s, 'n>> for EachFrame<'_, '_, '_, '_> {
         alloc: Global,
     ) -> Put {
         out.begin_object()?;
-        put_frame(out, alloc, self, number, item)?;
+        put_place(out, alloc, self, number, &item.frame)?;
+        put_names(out, alloc, self.report.symbols, item)?;
         out.end_object()?;
         Ok(())
     }
 }
 
-/// Puts frames, each by its number.
-#[tactic(auto, using(crate::proofs::NumberedLemmas::numbered_values))]
-pub(crate) fn put_frames(
-    out: &mut Writer,
-    alloc: Global,
-    by: &EachFrame<'_, '_, '_, '_>,
-    frames: &[ShownFrame<'_, '_>],
-) -> Put
-    ensures { Puts result out.old out.new (numbered_array_of (frame_json (report_of by.now.report)
-        (context_in by.now.context)) (map shown_frame_of frames.now)) }
-{
-    put_numbered_array(out, alloc, frames, by)
-}
-
-// Adds the members of a frame with its number.
-fn put_frame(
-    out: &mut Writer,
-    alloc: Global,
-    by: &EachFrame<'_, '_, '_, '_>,
-    number: usize,
-    shown: &ShownFrame<'_, '_>,
-) -> Put
-    ensures { Adds result out.old out.new
-        (place_members (report_of by.now.report).crash.modules.loaded (context_in by.now.context)
-        number (shown_frame_of shown.now).frame
-        ++ name_members (report_of by.now.report).symbols (shown_frame_of shown.now)) }
-{
-    put_place(out, alloc, by, number, &shown.frame)?;
-    put_names_if(out, alloc, by.report.symbols, shown)?;
-    Ok(())
-}
-
 // Adds the members of a frame but its names.
 #[rattlefmt::skip]
-#[tactic(auto, unfolding(crate::specs::Frames::frame_object))]
+#[tactic(auto, unfolding(crate::specs::Frames::place_members))]
 fn put_place(
     out: &mut Writer,
     alloc: Global,
@@ -215,7 +184,7 @@ fn register_fields(
 // ---- names
 
 // Adds the members of a frame's names, if symbols are known.
-fn put_names_if(
+fn put_names(
     out: &mut Writer,
     alloc: Global,
     symbols: Option<&Symbolized<'_, '_>>,
@@ -225,13 +194,13 @@ fn put_names_if(
         (option_map symbolized_of (option_copied symbols.entry)) (shown_frame_of shown.now)) }
 {
     match symbols {
-        Some(_) => put_names(out, alloc, shown),
+        Some(_) => put_known_names(out, alloc, shown),
         None => Members::<Scalar<'_>>(&[]).add(out, alloc),
     }
 }
 
-// Adds the members of a frame's names.
-fn put_names(out: &mut Writer, alloc: Global, shown: &ShownFrame<'_, '_>) -> Put
+// Adds the members of the names that symbols give.
+fn put_known_names(out: &mut Writer, alloc: Global, shown: &ShownFrame<'_, '_>) -> Put
     ensures { Adds result out.old out.new (known_members (shown_frame_of shown.now)) }
 {
     let function = lossy(alloc, name_of(shown.function))?;

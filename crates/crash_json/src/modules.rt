@@ -1,5 +1,5 @@
 //! The modules, loaded and unloaded.
-ghost use Rattle.std.specs.Prelude.{◌≡◌, ◌++◌, map};
+ghost use Rattle.std.specs.Prelude.{◌≡◌, map};
 ghost use Rattle.std.specs.Option.{option_copied, option_map};
 ghost use Rattle.crash.specs.Modules.{loaded_of};
 ghost use Rattle.crash_symbols.specs.Shown.{symbolized_of};
@@ -7,7 +7,7 @@ ghost use Rattle.crash_symbols.specs.Symbols.{are_loaded};
 ghost use Rattle.crash_json.specs.Tree.{Adds, Puts};
 ghost use Rattle.crash_json.specs.Members.{report_of};
 ghost use Rattle.crash_json.specs.Modules.{are_corrupt, are_missing, main_module};
-ghost use Rattle.crash_json.specs.Modules.{module_object, modules_json, part_name, state_object};
+ghost use Rattle.crash_json.specs.Modules.{module_members, modules_json, part_name, state_object};
 ghost use Rattle.crash_json.specs.Modules.{symbol_members};
 
 use crate::report::Report;
@@ -43,34 +43,19 @@ impl NumberedJson<CrashModule> for Report<'_, '_, '_, '_> {
 
     ghost json_at = { λ r n m. module_json (report_of r).symbols n (loaded_of m) };
 
-    #[tactic(auto, using(crate::proofs::Tokens::object_of_members))]
     fn put_at(&self, number: usize, item: &CrashModule, out: &mut Writer, alloc: Global) -> Put {
         out.begin_object()?;
-        put_module(out, alloc, self.symbols, number, item)?;
+        put_module(out, alloc, item)?;
+        put_symbols(out, alloc, self.symbols, number)?;
         out.end_object()?;
         Ok(())
     }
 }
 
-// Adds the members of a module with its index.
-fn put_module(
-    out: &mut Writer,
-    alloc: Global,
-    symbols: Option<&Symbolized<'_, '_>>,
-    index: usize,
-    loaded: &CrashModule,
-) -> Put
-    ensures { Adds result out.old out.new (module_object (loaded_of loaded.now)
-        ++ symbol_members (option_map symbolized_of (option_copied symbols.entry)) index) }
-{
-    put_module_members(out, alloc, loaded)?;
-    put_symbols(out, alloc, symbols, index)?;
-    Ok(())
-}
-
-#[tactic(auto, unfolding(crate::specs::Modules::module_object))]
-fn put_module_members(out: &mut Writer, alloc: Global, loaded: &CrashModule) -> Put
-    ensures { Adds result out.old out.new (module_object (loaded_of loaded.now)) }
+// Adds the members of a module but what is known of its symbols.
+#[tactic(auto, unfolding(crate::specs::Modules::module_members))]
+fn put_module(out: &mut Writer, alloc: Global, loaded: &CrashModule) -> Put
+    ensures { Adds result out.old out.new (module_members (loaded_of loaded.now)) }
 {
     Members(&[
         ("base_addr", Scalar::Hex(Some(loaded.base))),
@@ -161,7 +146,7 @@ impl ToJson for UnreadableModule {
 
     ghost json = { unreadable_json };
 
-    #[tactic(auto, unfolding(crate::specs::Modules::unreadable_object))]
+    #[tactic(auto, unfolding(crate::specs::Modules::unreadable_json))]
     fn put(&self, out: &mut Writer, alloc: Global) -> Put {
         Members(&[
             ("index", Scalar::Count(Some(self.index))),

@@ -1,9 +1,7 @@
 //! Where the thread that crashed stands.
-ghost use Rattle.std.specs.Prelude.{◌≡◌, ◌∷◌, IfOk, codes, filter, map};
-ghost use Rattle.json.specs.Json.{string};
+ghost use Rattle.std.specs.Prelude.{◌≡◌, IfOk, filter, map};
 ghost use Rattle.crash.specs.Addresses.{is_placed};
-ghost use Rattle.crash_json.specs.Tree.{Adds, Puts};
-ghost use Rattle.crash_json.specs.Cause.{address_members};
+ghost use Rattle.crash_json.specs.Tree.{Puts};
 ghost use Rattle.crash_json.specs.Point.{placed_json};
 
 use crate::cause::put_address;
@@ -93,23 +91,13 @@ impl ToJson for (&'static str, AddressFacts) {
 
     ghost json = { λ r. register_json (r.0.now, r.1) };
 
-    #[tactic(auto, using(crate::proofs::Tokens::object_of_members))]
     fn put(&self, out: &mut Writer, alloc: Global) -> Put {
         out.begin_object()?;
-        put_register(out, alloc, self.0, &self.1)?;
+        Members(&[("name", Scalar::Text(Some(self.0)))]).add(out, alloc)?;
+        put_address(out, alloc, &self.1)?;
         out.end_object()?;
         Ok(())
     }
-}
-
-// Adds the members of a register.
-fn put_register(out: &mut Writer, alloc: Global, name: &str, facts: &AddressFacts) -> Put
-    ensures { Adds result out.old out.new
-        ((codes "name", string name.now) ∷ address_members facts.now) }
-{
-    Members(&[("name", Scalar::Text(Some(name)))]).add(out, alloc)?;
-    put_address(out, alloc, facts)?;
-    Ok(())
 }
 
 // ---- the code and the words
@@ -130,7 +118,7 @@ impl ToJson for StackWord {
 
     ghost json = { word_json };
 
-    #[tactic(auto, unfolding(crate::specs::Point::word_object))]
+    #[tactic(auto, unfolding(crate::specs::Point::word_json))]
     fn put(&self, out: &mut Writer, alloc: Global) -> Put {
         Members(&[
             ("address", Scalar::Hex(Some(self.address))),

@@ -32,7 +32,7 @@ impl ToJson for MinidumpHandleDescriptor {
 
     ghost json = { λ h. handle_json (handle_of h) };
 
-    #[tactic(auto, unfolding(crate::specs::Records::handle_object))]
+    #[tactic(auto, unfolding(crate::specs::Records::handle_json))]
     fn put(&self, out: &mut Writer, alloc: Global) -> Put {
         Members(&[
             ("handle", Scalar::Hex(self.raw.handle().copied())),
@@ -65,7 +65,7 @@ impl ToJson for MinidumpMacCrashInfo {
 
     ghost json = { λ records. mac_crash_json (mac_crash_info_stream.value records) };
 
-    #[tactic(auto, unfolding(crate::specs::Records::mac_members))]
+    #[tactic(auto, unfolding(crate::specs::Records::mac_crash_json))]
     fn put(&self, out: &mut Writer, alloc: Global) -> Put {
         let records = self.raw.as_slice();
         let count = Scalar::Count(Some(how_many(records)));
@@ -111,7 +111,7 @@ impl ToJson for RawMacCrashInfo {
 
     ghost json = { λ r. mac_record_json (mac_record_of r) };
 
-    #[tactic(auto, unfolding(crate::specs::Records::mac_object))]
+    #[tactic(auto, unfolding(crate::specs::Records::mac_record_json))]
     fn put(&self, out: &mut Writer, alloc: Global) -> Put {
         Members(&[
             ("thread", Scalar::Hex(self.thread().copied())),

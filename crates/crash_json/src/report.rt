@@ -7,9 +7,7 @@ ghost use Rattle.minidump.specs.Promise.{mac_bootargs_stream, soft_errors_stream
 ghost use Rattle.crash.specs.Threads.{thread_value};
 ghost use Rattle.crash_json.specs.Tree.{Adds};
 ghost use Rattle.crash_json.specs.Members.{report_of};
-ghost use Rattle.crash_json.specs.Report.{all_members, crash_members, crash_object, path_members};
-ghost use Rattle.crash_json.specs.Report.{process_members, process_object, record_members};
-ghost use Rattle.crash_json.specs.Report.{record_object};
+ghost use Rattle.crash_json.specs.Report.{crash_members, path_members, record_members};
 
 use crate::JsonLimits;
 use crate::cause::{put_crash_info, widened};
@@ -17,8 +15,10 @@ use crate::dump::put_minidump;
 use crate::linux::put_proc_limits;
 use crate::modules::{main_module, put_modules};
 use crate::soft_errors::put_soft_errors;
-use crate::threads::{put_crashing, put_threads};
-use crate::tree::{Members, Put, Scalar, ToJson, as_text, put_array, put_found, put_or_null};
+use crate::threads::{EachThread, put_crashing};
+use crate::tree::{
+    Members, Put, Scalar, ToJson, as_text, put_array, put_found, put_numbered_array, put_or_null,
+};
 use crash::{Crash, CrashThread};
 use crash_symbols::Symbolized;
 use json::Writer;
@@ -41,24 +41,22 @@ impl ToJson for Report<'_, '_, '_, '_> {
 
     ghost json = { λ r. line_json (report_of r) };
 
-    #[tactic(auto, using(crate::proofs::Tokens::object_of_members))]
     fn put(&self, out: &mut Writer, alloc: Global) -> Put {
+        let report = *self;
+        let threads = report.crash.threads.threads.as_slice();
+        let each = EachThread {
+            report,
+            is_crashing: false,
+        };
         out.begin_object()?;
-        put_report(out, alloc, *self)?;
+        put_path(out, alloc, report.path)?;
+        put_crash(out, alloc, report)?;
+        out.key("threads")?;
+        put_numbered_array(out, alloc, threads, &each)?;
+        put_records(out, alloc, report)?;
         out.end_object()?;
         Ok(())
     }
-}
-
-// Adds the members of a report.
-fn put_report(out: &mut Writer, alloc: Global, report: Report<'_, '_, '_, '_>) -> Put
-    ensures { Adds result out.old out.new (all_members (report_of report.entry)) }
-{
-    put_path(out, alloc, report.path)?;
-    put_crash(out, alloc, report)?;
-    put_process(out, alloc, report)?;
-    put_records(out, alloc, report)?;
-    Ok(())
 }
 
 // Adds the path of the file, if it has one.
@@ -71,47 +69,26 @@ fn put_path(out: &mut Writer, alloc: Global, path: Option<&str>) -> Put
     }
 }
 
-// Adds the system, the crash and the modules.
+// Adds the system, the crash and the modules, and the process with the number of its threads.
+#[tactic(auto, unfolding(crate::specs::Report::crash_members))]
 fn put_crash(out: &mut Writer, alloc: Global, report: Report<'_, '_, '_, '_>) -> Put
     ensures { Adds result out.old out.new (crash_members (report_of report.entry)) }
 {
-    let main = main_module(report.crash.modules.loaded.as_slice());
-    put_crash_members(out, alloc, report, main)
-}
-
-#[tactic(auto, unfolding(crate::specs::Report::crash_object))]
-fn put_crash_members(
-    out: &mut Writer,
-    alloc: Global,
-    report: Report<'_, '_, '_, '_>,
-    main: Option<usize>,
-) -> Put
-    ensures { Adds result out.old out.new (crash_object (report_of report.entry) main) }
-{
     let crash = report.crash;
+    let main = Scalar::Count(main_module(crash.modules.loaded.as_slice()));
+    let id = Scalar::Number(widened(crash.process.id));
+    let count = Scalar::Count(Some(how_many(crash.threads.threads.as_slice())));
     Members(&[
         ("status", ReportMember::Scalar(Scalar::Text(Some("OK")))),
         ("system_info", ReportMember::System(crash)),
         ("crash_info", ReportMember::CrashInfo(crash)),
-        ("main_module", ReportMember::Scalar(Scalar::Count(main))),
+        ("main_module", ReportMember::Scalar(main)),
         ("modules", ReportMember::Modules(report)),
         ("unloaded_modules", ReportMember::Unloaded(crash)),
+        ("pid", ReportMember::Scalar(id)),
+        ("thread_count", ReportMember::Scalar(count)),
     ])
     .add(out, alloc)
-}
-
-// Adds the process and its threads.
-fn put_process(out: &mut Writer, alloc: Global, report: Report<'_, '_, '_, '_>) -> Put
-    ensures { Adds result out.old out.new (process_members (report_of report.entry)) }
-{
-    let how_many = how_many(report.crash.threads.threads.as_slice());
-    put_process_members(
-        out,
-        alloc,
-        report,
-        widened(report.crash.process.id),
-        how_many,
-    )
 }
 
 // Returns how many threads there are.
@@ -121,35 +98,27 @@ fn how_many(threads: &[CrashThread]) -> usize
     threads.len()
 }
 
-#[tactic(auto, unfolding(crate::specs::Report::process_object))]
-fn put_process_members(
-    out: &mut Writer,
-    alloc: Global,
-    report: Report<'_, '_, '_, '_>,
-    id: Option<u64>,
-    how_many: usize,
-) -> Put
-    ensures { Adds result out.old out.new
-        (process_object (report_of report.entry) id how_many) }
-{
-    let how_many = Scalar::Count(Some(how_many));
-    Members(&[
-        ("pid", ReportMember::Scalar(Scalar::Number(id))),
-        ("thread_count", ReportMember::Scalar(how_many)),
-        ("threads", ReportMember::Threads(report)),
-        ("crashing_thread", ReportMember::Crashing(report)),
-    ])
-    .add(out, alloc)
-}
-
-// Adds what single streams hold, and what the schema has no member for.
+// Adds the thread that crashed, what single streams hold, and what the schema has no member for.
+#[tactic(auto, unfolding(crate::specs::Report::record_members))]
 fn put_records(out: &mut Writer, alloc: Global, report: Report<'_, '_, '_, '_>) -> Put
     ensures { Adds result out.old out.new (record_members (report_of report.entry)) }
 {
-    let messages = &report.crash.contents.messages;
-    let boot_args = boot_args(&messages.mac_boot_args);
-    let soft_errors = soft_errors(&messages.soft_errors);
-    put_record_members(out, alloc, report, boot_args, soft_errors)
+    let crash = report.crash;
+    let boot_args = Scalar::Text(boot_args(&crash.contents.messages.mac_boot_args));
+    let soft_errors = ReportMember::SoftErrors(soft_errors(&crash.contents.messages.soft_errors));
+    let map_count = Scalar::Count(crash.contents.space.map_count);
+    Members(&[
+        ("crashing_thread", ReportMember::Crashing(report)),
+        ("lsb_release", ReportMember::Release(crash)),
+        ("mac_crash_info", ReportMember::MacCrash(crash)),
+        ("mac_boot_args", ReportMember::Scalar(boot_args)),
+        ("handles", ReportMember::Handles(crash)),
+        ("soft_errors", soft_errors),
+        ("linux_memory_map_count", ReportMember::Scalar(map_count)),
+        ("proc_limits", ReportMember::Limits(crash)),
+        ("minidump", ReportMember::Minidump(report)),
+    ])
+    .add(out, alloc)
 }
 
 // Returns the arguments of macOS's boot.
@@ -173,33 +142,6 @@ fn soft_errors<'a>(found: &Result<MinidumpSoftErrors<'a>, Error>) -> Option<&'a 
     }
 }
 
-#[tactic(auto, unfolding(crate::specs::Report::record_object))]
-fn put_record_members<'l>(
-    out: &mut Writer,
-    alloc: Global,
-    report: Report<'l, '_, '_, '_>,
-    boot_args: Option<&'l str>,
-    soft_errors: Option<&'l str>,
-) -> Put
-    ensures { Adds result out.old out.new (record_object (report_of report.entry)
-        (option_copied boot_args.entry) (option_copied soft_errors.entry)) }
-{
-    let crash = report.crash;
-    let boot_args = Scalar::Text(boot_args);
-    let map_count = Scalar::Count(crash.contents.space.map_count);
-    Members(&[
-        ("lsb_release", ReportMember::Release(crash)),
-        ("mac_crash_info", ReportMember::MacCrash(crash)),
-        ("mac_boot_args", ReportMember::Scalar(boot_args)),
-        ("handles", ReportMember::Handles(crash)),
-        ("soft_errors", ReportMember::SoftErrors(soft_errors)),
-        ("linux_memory_map_count", ReportMember::Scalar(map_count)),
-        ("proc_limits", ReportMember::Limits(crash)),
-        ("minidump", ReportMember::Minidump(report)),
-    ])
-    .add(out, alloc)
-}
-
 // The value of a member, without parts or of a part of the crash.
 #[derive(Clone, Copy)]
 pub(crate) enum ReportMember<'l, 'a, 's, 'n> {
@@ -208,7 +150,6 @@ pub(crate) enum ReportMember<'l, 'a, 's, 'n> {
     CrashInfo(&'l Crash<'a>),
     Modules(Report<'l, 'a, 's, 'n>),
     Unloaded(&'l Crash<'a>),
-    Threads(Report<'l, 'a, 's, 'n>),
     Crashing(Report<'l, 'a, 's, 'n>),
     Release(&'l Crash<'a>),
     MacCrash(&'l Crash<'a>),
@@ -233,7 +174,6 @@ impl ToJson for ReportMember<'_, '_, '_, '_> {
             ReportMember::Unloaded(crash) => {
                 put_array(out, alloc, crash.modules.unloaded.as_slice())
             }
-            ReportMember::Threads(report) => put_threads(out, alloc, report),
             ReportMember::Crashing(report) => put_crashing(out, alloc, *report),
             ReportMember::Release(crash) => put_or_null(out, alloc, &crash.process.release),
             ReportMember::MacCrash(crash) => {

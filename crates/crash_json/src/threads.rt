@@ -1,17 +1,16 @@
 //! The threads, and the one that crashed.
-ghost use Rattle.std.specs.Prelude.{◌≡◌, ◌∷◌, IfOk, codes, length, map, take};
+ghost use Rattle.std.specs.Prelude.{◌≡◌, IfOk, length, map, take};
 ghost use Rattle.std.specs.Option.{option_copied, option_map};
 ghost use Rattle.crash.specs.Threads.{thread_value, threads_of};
 ghost use Rattle.crash_symbols.specs.Shown.{shown_frame_of, shown_of};
-ghost use Rattle.crash_json.specs.Tree.{Adds, Puts, count};
+ghost use Rattle.crash_json.specs.Tree.{Adds, Puts};
 ghost use Rattle.crash_json.specs.Members.{context_in, report_of};
-ghost use Rattle.crash_json.specs.Threads.{all_frames, crashing_json, end_name};
-ghost use Rattle.crash_json.specs.Threads.{indexed_json, pointer_end_name, registers_of, short_of};
-ghost use Rattle.crash_json.specs.Threads.{thread_members, thread_object, threads_json};
-ghost use Rattle.crash_json.specs.Threads.{walk_members};
+ghost use Rattle.crash_json.specs.Threads.{crashing_json, end_name, frames_in, index_members};
+ghost use Rattle.crash_json.specs.Threads.{pointer_end_name, registers_of, shown_context};
+ghost use Rattle.crash_json.specs.Threads.{thread_members};
 
 use crate::cause::problem_name;
-use crate::frames::{EachFrame, put_frames};
+use crate::frames::EachFrame;
 use crate::report::Report;
 use crate::tree::{Members, NumberedJson, Put, Scalar, ToJson, put_numbered_array, put_or_null};
 use crash::{ContextOrigin, CrashContext, CrashThread, CrashThreads, ShortContext, StackRange};
@@ -21,121 +20,110 @@ use stack_walk::WalkEnd;
 use std::alloc::{AllocError, Global};
 use symbol_walk::SymbolWalkEnd;
 
-impl NumberedJson<CrashThread> for Report<'_, '_, '_, '_> {
+/// What the values of threads are made by. The thread that crashed is written with its index, and its
+/// first frame with registers.
+#[derive(Clone, Copy)]
+pub(crate) struct EachThread<'l, 'a, 's, 'n> {
+    pub(crate) report: Report<'l, 'a, 's, 'n>,
+    pub(crate) is_crashing: bool,
+}
+
+impl NumberedJson<CrashThread> for EachThread<'_, '_, '_, '_> {
     ghost use Rattle.crash.specs.Threads.{thread_value};
     ghost use Rattle.crash_json.specs.Members.{report_of};
     ghost use Rattle.crash_json.specs.Threads.{thread_json};
 
-    ghost json_at = { λ r n t. thread_json (report_of r) n (thread_value t) };
+    ghost json_at = { λ e n t. thread_json (report_of e.report) e.is_crashing n (thread_value t) };
 
-    #[tactic(auto, using(crate::proofs::Tokens::object_of_members))]
     fn put_at(&self, number: usize, item: &CrashThread, out: &mut Writer, alloc: Global) -> Put {
+        let report = self.report;
+        let context = shown_context(self.is_crashing, item);
+        let each = EachFrame { report, context };
+        let walk = shown_walk(alloc, item, number, report.symbols)?;
+        let frames = first_frames(alloc, &walk, report.limits.frames)?;
         out.begin_object()?;
-        put_thread(out, alloc, *self, None, number, item)?;
+        put_index(out, alloc, self.is_crashing, number)?;
+        put_members(out, alloc, item, &walk)?;
+        out.key("frames")?;
+        put_numbered_array(out, alloc, frames.as_slice(), &each)?;
         out.end_object()?;
         Ok(())
     }
 }
 
-/// Puts the threads.
-#[tactic(auto, unfolding(crate::specs::Threads::threads_json), using(crate::proofs::NumberedLemmas::numbered_values))]
-pub(crate) fn put_threads(out: &mut Writer, alloc: Global, report: &Report<'_, '_, '_, '_>) -> Put
-    ensures { Puts result out.old out.new (threads_json (report_of report.now)) }
+// Returns the context whose registers the first frame shows: that of the thread that crashed alone.
+fn shown_context(is_crashing: bool, thread: &CrashThread) -> Option<&CrashContext>
+    ensures { context_in result ≡ shown_context is_crashing (thread_value thread.now) }
 {
-    put_numbered_array(out, alloc, report.crash.threads.threads.as_slice(), report)
+    if is_crashing {
+        thread.context.as_ref()
+    } else {
+        None
+    }
 }
 
-// Adds the members of a thread with its index, with the registers of its first frame if they are
-// shown.
-fn put_thread(
-    out: &mut Writer,
-    alloc: Global,
-    report: Report<'_, '_, '_, '_>,
-    context: Option<&CrashContext>,
-    number: usize,
-    thread: &CrashThread,
-) -> Put
-    ensures { Adds result out.old out.new (thread_members (report_of report.entry)
-        (context_in context.entry) number (thread_value thread.now)) }
-{
-    let walk = shown_walk(alloc, thread, number, report.symbols)?;
-    put_walk(out, alloc, EachFrame { report, context }, thread, &walk)
-}
-
-// Adds the members of a thread by what is shown of it.
-fn put_walk<'s, 'n>(
-    out: &mut Writer,
-    alloc: Global,
-    each: EachFrame<'_, '_, 's, 'n>,
-    thread: &CrashThread,
-    walk: &Option<ShownWalk<'s, 'n>>,
-) -> Put
-    ensures { Adds result out.old out.new (walk_members (report_of each.entry.report)
-        (context_in each.entry.context) (thread_value thread.now) (option_map shown_of walk.now)) }
-{
-    let frames = all_frames(alloc, walk)?;
-    put_thread_members(
-        out,
-        alloc,
-        thread,
-        problem_name(thread.context_problem),
-        end_of(walk),
-        short_of(thread),
-        how_many(frames.as_slice()),
-        each,
-        first_of(frames.as_slice(), each.report.limits.frames),
-    )
-}
-
-// Returns how much there is of the context of a thread's registers, if that is cut.
-fn short_of(thread: &CrashThread) -> Option<ShortContext>
-    ensures { result ≡ short_of (thread_value thread.now) }
-{
-    thread.context.as_ref()?.short
-}
-
-// Returns what is found in a stack: the frames, and after them the candidates.
-fn all_frames<'s, 'n>(
+// Returns the first frames of what is shown of a thread, or none if nothing is.
+fn first_frames<'s, 'n>(
     alloc: Global,
     walk: &Option<ShownWalk<'s, 'n>>,
+    limit: usize,
 ) -> Result<Vec<ShownFrame<'s, 'n>>, AllocError>
     ensures { IfOk result (λ frames. map shown_frame_of frames.items
-        ≡ all_frames (option_map shown_of walk.now)) }
+        ≡ take limit (frames_in (option_map shown_of walk.now))) }
 {
-    let mut frames = Vec::new(alloc);
     match walk {
-        Some(walk) => {
-            frames.extend_from_slice(walk.frames.as_slice())?;
-            frames.extend_from_slice(walk.candidates.as_slice())?;
-            Ok(frames)
-        }
-        None => Ok(frames),
+        Some(walk) => walk.first_frames(alloc, limit),
+        None => Ok(Vec::new(alloc)),
     }
 }
 
-// Returns the first frames, at most so many.
-#[tactic(auto, using(crate::proofs::NumberedLemmas::first_values))]
-fn first_of<'f, 's, 'n>(frames: &'f [ShownFrame<'s, 'n>], limit: usize) -> &'f [ShownFrame<'s, 'n>]
-    ensures { map shown_frame_of result.now ≡ take limit (map shown_frame_of frames.now) }
+// Adds the index of the thread if it is the one that crashed.
+fn put_index(out: &mut Writer, alloc: Global, is_crashing: bool, number: usize) -> Put
+    ensures { Adds result out.old out.new (index_members is_crashing number) }
 {
-    first(frames, limit)
-}
-
-fn first<'f, 's, 'n>(frames: &'f [ShownFrame<'s, 'n>], limit: usize) -> &'f [ShownFrame<'s, 'n>]
-    ensures { result.now ≡ take limit frames.now }
-{
-    if limit < frames.len() {
-        &frames[..limit]
+    if is_crashing {
+        Members(&[("threads_index", Scalar::Count(Some(number)))]).add(out, alloc)
     } else {
-        frames
+        Members::<Scalar<'_>>(&[]).add(out, alloc)
     }
 }
 
-// Returns how many frames there are.
-fn how_many(frames: &[ShownFrame<'_, '_>]) -> usize
-    ensures { result ≡ length (map shown_frame_of frames.now) }
+// Adds the members of a thread but its frames.
+#[rattlefmt::skip]
+#[tactic(auto, unfolding(crate::specs::Threads::thread_members))]
+fn put_members(
+    out: &mut Writer,
+    alloc: Global,
+    thread: &CrashThread,
+    walk: &Option<ShownWalk<'_, '_>>,
+) -> Put
+    ensures { Adds result out.old out.new
+        (thread_members (thread_value thread.now) (option_map shown_of walk.now)) }
 {
-    frames.len()
+    let problem = problem_name(thread.context_problem);
+    Members(&[
+        ("thread_id", ThreadMember::Scalar(Scalar::Number(Some(thread.id as u64)))),
+        ("thread_name", ThreadMember::Scalar(Scalar::Optional(&thread.name))),
+        ("is_listed", ThreadMember::Scalar(Scalar::Flag(thread.is_listed))),
+        ("last_error_value", ThreadMember::Scalar(Scalar::Optional(&thread.last_error))),
+        ("frame_count", ThreadMember::Scalar(Scalar::Count(Some(frame_count(walk))))),
+        ("stack", ThreadMember::Range(thread.stack)),
+        ("stack_memory", ThreadMember::Range(thread.stack_memory)),
+        ("context_problem", ThreadMember::Scalar(Scalar::Text(problem))),
+        ("short_context", ThreadMember::Short(thread.short_context())),
+        ("end", ThreadMember::Scalar(Scalar::Text(end_of(walk)))),
+    ])
+    .add(out, alloc)
+}
+
+// Returns how many frames there are, with the candidates.
+fn frame_count(walk: &Option<ShownWalk<'_, '_>>) -> usize
+    ensures { result ≡ length (frames_in (option_map shown_of walk.now)) }
+{
+    match walk {
+        Some(walk) => walk.frames.len() + walk.candidates.len(),
+        None => 0,
+    }
 }
 
 // Returns the word for why the last frame has no caller.
@@ -173,49 +161,15 @@ fn pointer_end_name(end: WalkEnd) -> &'static str
     }
 }
 
-#[rattlefmt::skip]
-#[tactic(auto, unfolding(crate::specs::Threads::thread_object))]
-fn put_thread_members<'l, 's, 'n>(
-    out: &mut Writer,
-    alloc: Global,
-    thread: &'l CrashThread,
-    problem: Option<&'l str>,
-    end: Option<&'l str>,
-    short: Option<ShortContext>,
-    frame_count: usize,
-    each: EachFrame<'l, '_, 's, 'n>,
-    frames: &'l [ShownFrame<'s, 'n>],
-) -> Put
-    ensures { Adds result out.old out.new (thread_object (report_of each.entry.report)
-        (thread_value thread.now) (option_copied problem.entry) (option_copied end.entry) short
-        frame_count (context_in each.entry.context) (map shown_frame_of frames.now)) }
-{
-    Members(&[
-        ("thread_id", ThreadMember::Scalar(Scalar::Number(Some(thread.id as u64)))),
-        ("thread_name", ThreadMember::Scalar(Scalar::Optional(&thread.name))),
-        ("is_listed", ThreadMember::Scalar(Scalar::Flag(thread.is_listed))),
-        ("last_error_value", ThreadMember::Scalar(Scalar::Optional(&thread.last_error))),
-        ("frame_count", ThreadMember::Scalar(Scalar::Count(Some(frame_count)))),
-        ("stack", ThreadMember::Range(thread.stack)),
-        ("stack_memory", ThreadMember::Range(thread.stack_memory)),
-        ("context_problem", ThreadMember::Scalar(Scalar::Text(problem))),
-        ("short_context", ThreadMember::Short(short)),
-        ("end", ThreadMember::Scalar(Scalar::Text(end))),
-        ("frames", ThreadMember::Frames(each, frames)),
-    ])
-    .add(out, alloc)
-}
-
 // The value of a member of a thread.
 #[derive(Clone, Copy)]
-pub(crate) enum ThreadMember<'l, 'a, 's, 'n> {
+pub(crate) enum ThreadMember<'l> {
     Scalar(Scalar<'l>),
     Range(Option<StackRange>),
     Short(Option<ShortContext>),
-    Frames(EachFrame<'l, 'a, 's, 'n>, &'l [ShownFrame<'s, 'n>]),
 }
 
-impl ToJson for ThreadMember<'_, '_, '_, '_> {
+impl ToJson for ThreadMember<'_> {
     ghost use Rattle.crash_json.specs.Members.{thread_member};
 
     ghost json = { thread_member };
@@ -225,7 +179,6 @@ impl ToJson for ThreadMember<'_, '_, '_, '_> {
             ThreadMember::Scalar(scalar) => scalar.put(out, alloc),
             ThreadMember::Range(range) => put_or_null(out, alloc, range),
             ThreadMember::Short(short) => put_or_null(out, alloc, short),
-            ThreadMember::Frames(each, frames) => put_frames(out, alloc, each, frames),
         }
     }
 }
@@ -260,48 +213,19 @@ impl ToJson for ShortContext {
     }
 }
 
-/// Puts the thread that crashed, with its index and the registers of its first frame, or `null`.
+/// Puts the thread that crashed, or `null`.
 pub(crate) fn put_crashing(out: &mut Writer, alloc: Global, report: Report<'_, '_, '_, '_>) -> Put
     ensures { Puts result out.old out.new (crashing_json (report_of report.entry)) }
 {
+    let is_crashing = true;
     match report.crash.threads.crashed() {
-        Some((index, thread)) => put_indexed(out, alloc, report, index, thread)?,
+        Some((n, thread)) => EachThread {
+            report,
+            is_crashing,
+        }
+        .put_at(n, thread, out, alloc)?,
         None => out.null()?,
     }
-    Ok(())
-}
-
-// Puts a thread with its index.
-#[tactic(auto, using(crate::proofs::Tokens::object_of_members))]
-fn put_indexed(
-    out: &mut Writer,
-    alloc: Global,
-    report: Report<'_, '_, '_, '_>,
-    index: usize,
-    thread: &CrashThread,
-) -> Put
-    ensures { Puts result out.old out.new (indexed_json (report_of report.entry) index
-        (thread_value thread.now)) }
-{
-    out.begin_object()?;
-    put_indexed_members(out, alloc, report, index, thread)?;
-    out.end_object()?;
-    Ok(())
-}
-
-fn put_indexed_members(
-    out: &mut Writer,
-    alloc: Global,
-    report: Report<'_, '_, '_, '_>,
-    index: usize,
-    thread: &CrashThread,
-) -> Put
-    ensures { Adds result out.old out.new ((codes "threads_index", count index)
-        ∷ thread_members (report_of report.entry) (thread_value thread.now).context index
-        (thread_value thread.now)) }
-{
-    Members(&[("threads_index", Scalar::Count(Some(index)))]).add(out, alloc)?;
-    put_thread(out, alloc, report, thread.context.as_ref(), index, thread)?;
     Ok(())
 }
 

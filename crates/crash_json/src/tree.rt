@@ -3,7 +3,7 @@
 //! A type has a JSON value by [`ToJson`], and so has each item of a list; by [`NumberedJson`] an item's
 //! value has its number in it. [`Members`] are the members of an object, whose values are of one type:
 //! it puts the object, or adds them to those that were put.
-ghost use Rattle.std.specs.Prelude.{◌≡◌, ◌≤◌, ◌++◌, ℕ, IfOk, IsOkUnless, OnOk, Some, map};
+ghost use Rattle.std.specs.Prelude.{◌≡◌, ◌≤◌, ℕ, IfOk, IsOkUnless, Some, map};
 ghost use Rattle.std.specs.Prelude.{string_bytes};
 ghost use Rattle.std.specs.Option.{option_copied, option_map};
 ghost use Rattle.std.specs.Result.{result_ok};
@@ -11,9 +11,8 @@ ghost use Rattle.std.specs.Str.{IsUtf8};
 ghost use Rattle.json.specs.Json.{Json, document, max_depth, string};
 ghost use Rattle.json.specs.Print.{print};
 ghost use Rattle.json.specs.Tree.{depth, json_tokens};
-ghost use Rattle.crash_json.specs.Tree.{Adds, Puts, array_of, hex_text, item_tokens, member_of};
-ghost use Rattle.crash_json.specs.Tree.{numbered_array_of, numbered_tokens, object_of, or_null};
-ghost use Rattle.crash_json.specs.Tree.{scalar_json};
+ghost use Rattle.crash_json.specs.Tree.{Adds, Puts, array_of, hex_text, member_of};
+ghost use Rattle.crash_json.specs.Tree.{numbered_array_of, object_of, or_null};
 
 use json::Writer;
 use minidump_bytes::{Piece, format_pieces};
@@ -99,30 +98,23 @@ impl ToJson for Scalar<'_> {
     ghost json = { scalar_json };
 
     fn put(&self, out: &mut Writer, alloc: Global) -> Put {
-        put_scalar(out, alloc, *self)
-    }
-}
-
-// Puts a value without parts.
-fn put_scalar(out: &mut Writer, alloc: Global, scalar: Scalar<'_>) -> Put
-    ensures { Puts result out.old out.new (scalar_json scalar.entry) }
-{
-    match scalar {
-        Scalar::Text(text) => put_text(out, text)?,
-        Scalar::Owned(text) => out.string(text.as_str())?,
-        Scalar::Optional(text) => put_text(out, as_text(text))?,
-        Scalar::Number(Some(number)) => out.u64(number)?,
-        Scalar::Count(Some(number)) => out.u64(number as u64)?,
-        Scalar::Hex(Some(number)) => {
-            let text = hex_text(alloc, number)?;
-            out.string(text.as_str())?
+        match *self {
+            Scalar::Text(text) => put_text(out, text)?,
+            Scalar::Owned(text) => out.string(text.as_str())?,
+            Scalar::Optional(text) => put_text(out, as_text(text))?,
+            Scalar::Number(Some(number)) => out.u64(number)?,
+            Scalar::Count(Some(number)) => out.u64(number as u64)?,
+            Scalar::Hex(Some(number)) => {
+                let text = hex_text(alloc, number)?;
+                out.string(text.as_str())?
+            }
+            Scalar::Flag(flag) => out.boolean(flag)?,
+            Scalar::Null | Scalar::Number(None) | Scalar::Count(None) | Scalar::Hex(None) => {
+                out.null()?
+            }
         }
-        Scalar::Flag(flag) => out.boolean(flag)?,
-        Scalar::Null | Scalar::Number(None) | Scalar::Count(None) | Scalar::Hex(None) => {
-            out.null()?
-        }
+        Ok(())
     }
-    Ok(())
 }
 
 // Puts a text that may be absent.
@@ -192,19 +184,19 @@ pub(crate) fn put_found<T: ToJson>(out: &mut Writer, alloc: Global, found: &Resu
 }
 
 /// Puts an array of the values of items. The only error is `OutOfMemory`.
-#[tactic(auto, using(crate::proofs::Tokens::array_of_items))]
 pub(crate) fn put_array<T: ToJson>(out: &mut Writer, alloc: Global, items: &[T]) -> Put
     ensures { Puts result out.old out.new (array_of T.json items.now) }
 {
     out.begin_array()?;
-    put_items(out, alloc, items)?;
+    for x in items {
+        x.put(out, alloc)?;
+    }
     out.end_array()?;
     Ok(())
 }
 
 /// Puts an array of the values of items, which may depend on their numbers. The only error is
 /// `OutOfMemory`.
-#[tactic(auto, using(crate::proofs::Tokens::array_of_numbered))]
 pub(crate) fn put_numbered_array<X, F: NumberedJson<X>>(
     out: &mut Writer,
     alloc: Global,
@@ -214,38 +206,9 @@ pub(crate) fn put_numbered_array<X, F: NumberedJson<X>>(
     ensures { Puts result out.old out.new (numbered_array_of (F.json_at by.now) items.now) }
 {
     out.begin_array()?;
-    put_numbered_items(out, alloc, items, by)?;
-    out.end_array()?;
-    Ok(())
-}
-
-// Puts the values of items, one after another.
-fn put_items<T: ToJson>(out: &mut Writer, alloc: Global, items: &[T]) -> Put
-    ensures tokens { OnOk result
-        (out.new.tokens ≡ out.old.tokens ++ item_tokens T.json items.now) }
-    ensures before { out.new.before ≡ out.old.before }
-    ensures memory { IsOkUnless result Error.OutOfMemory }
-{
-    for x in items {
-        x.put(out, alloc)?;
-    }
-    Ok(())
-}
-
-// Puts the values of items by their numbers, one after another.
-fn put_numbered_items<X, F: NumberedJson<X>>(
-    out: &mut Writer,
-    alloc: Global,
-    items: &[X],
-    by: &F,
-) -> Put
-    ensures tokens { OnOk result (out.new.tokens ≡ out.old.tokens ++ numbered_tokens
-        (F.json_at by.now) items.now) }
-    ensures before { out.new.before ≡ out.old.before }
-    ensures memory { IsOkUnless result Error.OutOfMemory }
-{
     for (number, x) in items.iter().enumerate() {
         by.put_at(number, x, out, alloc)?;
     }
+    out.end_array()?;
     Ok(())
 }

@@ -1,5 +1,5 @@
 -- What is shown of threads: their backtraces by symbols, or without symbols their walks.
-use Rattle.std.specs.Prelude.{ℕ, List, map, Option, Some, None, slice_get}
+use Rattle.std.specs.Prelude.{ℕ, ◌++◌, List, map, Option, Some, None, slice_get, take}
 use Rattle.std.specs.Option.{option_and_then, option_map}
 use Rattle.symbol_walk.specs.declared.walk.SymbolWalkEnd.TheVariants.{Walk}
 use Rattle.crash.specs.declared.frames.CrashFrame.{CrashFrame}
@@ -35,6 +35,14 @@ unnamed_walk w = record {
 abbrev pub shown_in : Option SymbolizedValue → ℕ → ThreadValue → Option BacktraceValue
 shown_in (Some s) number t = option_and_then (λ b. b) (slice_get s.threads number)
 shown_in None number t = option_map unnamed_walk t.walk
+
+-- the frames, and the candidates after them
+abbrev pub all_frames : BacktraceValue → List NamedFrameValue
+all_frames w = w.frames ++ w.candidates
+
+-- the first of them
+abbrev pub first_frames : ℕ → BacktraceValue → List NamedFrameValue
+first_frames limit w = take limit (all_frames w)
 
 -- ---- the value of the structs
 

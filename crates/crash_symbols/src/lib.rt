@@ -6,7 +6,8 @@
 //!   [`symbol_walk`] does, and names each frame.
 //! - [`Backtraces::wanted`] returns the modules whose files are still to be read. Their rules may lead
 //!   to further frames, and so to further modules.
-//! - [`shown_walk`] is what a form shows of a thread: its backtrace, or without symbols its walk.
+//! - [`shown_walk`] is what a form shows of a thread: its backtrace, or without symbols its walk, of
+//!   which [`ShownWalk::first_frames`] takes the first frames.
 //! - [`symbol_path`] is where the file of a module lies below a directory of symbol files, and
 //!   [`is_of_module`] tells whether a file is the module's.
 //!
@@ -14,10 +15,11 @@
 //! wanted.
 //!
 //! A frame is looked up by its address, which for a caller is the one below its return address, in the
-//! call. Its function is the kept one whose range has the address, else the nearest public symbol.
-//! Where the compiler put calls in place, the line record of the address is the innermost call's; each
-//! other function is at the line of the call in it. At most 1,000 calls in one another are looked for.
-//! All names are borrowed from the symbol files.
+//! call; on ARM of 32 bits bit 0 of the return address is cleared first. Its function is the kept one
+//! whose range has the address, else the nearest public symbol. Where the compiler put calls in place,
+//! the line record of the address is the innermost call's; each other function is at the line of the
+//! call in it. At most 1,000 calls in one another are looked for. All names are borrowed from the
+//! symbol files.
 //!
 //! # Errors
 //!
@@ -28,7 +30,8 @@
 //! - The backtraces are those that `backtraces_in` assigns to the crash and to what the symbol files
 //!   say: [`Backtraces::find`].
 //! - The modules whose files are wanted are those of `wanted_in`: [`Backtraces::wanted`].
-//! - What is shown of a thread is `shown_in` of the backtraces and the thread: [`shown_walk`].
+//! - What is shown of a thread is `shown_in` of the backtraces and the thread: [`shown_walk`]. The
+//!   first of its frames are `first_frames` of that: [`ShownWalk::first_frames`].
 //! - A file is a module's by `is_of_module`, and lies at `symbol_path`: [`is_of_module`],
 //!   [`symbol_path`].
 #![tactic(auto)]

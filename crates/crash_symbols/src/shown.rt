@@ -4,8 +4,8 @@ ghost use Rattle.crash.specs.Frames.{crash_walk_of};
 ghost use Rattle.crash.specs.Threads.{thread_value};
 ghost use Rattle.crash_symbols.specs.Backtraces.{backtrace_of};
 ghost use Rattle.crash_symbols.specs.NameParts.{named_of};
-ghost use Rattle.crash_symbols.specs.Shown.{shown_frame_of, shown_in, shown_of, symbolized_of};
-ghost use Rattle.crash_symbols.specs.Shown.{unnamed, unnamed_walk};
+ghost use Rattle.crash_symbols.specs.Shown.{first_frames, shown_frame_of, shown_in, shown_of};
+ghost use Rattle.crash_symbols.specs.Shown.{symbolized_of, unnamed, unnamed_walk};
 
 use crate::{Backtrace, FrameFunction, InlinedCall, NamedFrame, SourceLine, Symbolized};
 use crash::{CrashFrame, CrashThread, CrashWalk};
@@ -34,6 +34,26 @@ pub struct ShownWalk<'s, 'l> {
     pub candidates: Vec<ShownFrame<'s, 'l>>,
     /// Why the last of the frames has no caller.
     pub end: SymbolWalkEnd,
+}
+
+impl<'s, 'l> ShownWalk<'s, 'l> {
+    /// Returns the first frames, with the candidates after them, at most `limit` in all.
+    ///
+    /// Returns `AllocError` if an allocation fails.
+    pub fn first_frames(
+        &self,
+        alloc: Global,
+        limit: usize,
+    ) -> Result<Vec<ShownFrame<'s, 'l>>, AllocError>
+        ensures { IfOk result (λ frames. map shown_frame_of frames.items
+            ≡ first_frames limit (shown_of self.now)) }
+    {
+        let mut frames = Vec::new(alloc);
+        frames.extend_from_slice(self.frames.as_slice())?;
+        frames.extend_from_slice(self.candidates.as_slice())?;
+        frames.truncate(limit);
+        Ok(frames)
+    }
 }
 
 /// Returns what is shown of a thread with its index: its backtrace by symbols, and without symbols its

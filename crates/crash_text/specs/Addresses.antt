@@ -1,7 +1,6 @@
 -- The line of an address, with what is known of it.
-use Rattle.std.specs.Prelude.{ℕ, ◌++◌, Bool, true, false, List, [], ◌∷◌, codes, slice_get}
+use Rattle.std.specs.Prelude.{ℕ, ◌++◌, Bool, true, false, List, [], ◌∷◌, codes, not, slice_get}
 use Rattle.std.specs.Prelude.{Option, Some, None}
-use Rattle.std.specs.Fmt.{decimal}
 use Rattle.std.specs.List.{concat}
 use Rattle.std.specs.Option.{option_and_then}
 use Rattle.minidump.specs.Below.Bytes.Piece.{hex}
@@ -12,17 +11,12 @@ use Rattle.crash.specs.declared.addresses.RegionState.TheVariants.{Committed, Fr
 use Rattle.crash.specs.Crash.{CrashValue}
 use Rattle.crash.specs.Modules.{UnloadedModuleValue}
 use Rattle.crash.specs.Threads.{ThreadValue}
-use Rattle.crash_text.specs.Words.{place_text}
+use Rattle.crash_text.specs.Words.{id_text, place_text, words_if}
 
 -- how far the address is from 0, where it is near
 abbrev pub null_words : Option ℕ → List ℕ
 null_words (Some offset) = concat (codes ", null + " ∷ hex offset ∷ [])
 null_words None = []
-
--- that the processor can't access it
-abbrev pub canonical_words : Bool → List ℕ
-canonical_words true = []
-canonical_words false = codes ", not canonical"
 
 -- the path of an unloaded module
 abbrev pub path_words : List ℕ → List ℕ
@@ -35,8 +29,7 @@ unloaded_words None = []
 
 -- a thread after these words
 abbrev pub thread_words : List ℕ → Option ThreadValue → List ℕ
-thread_words words (Some t) =
-    concat (words ∷ decimal t.id ∷ codes " (" ∷ hex t.id ∷ codes ")" ∷ [])
+thread_words words (Some t) = id_text words t.id
 thread_words words None = []
 
 -- a letter for a right, and a dash where it is absent
@@ -44,16 +37,11 @@ abbrev pub right_letter : List ℕ → Bool → List ℕ
 right_letter letter true = letter
 right_letter letter false = codes "-"
 
--- that its memory is guarded
-abbrev pub guard_words : Bool → List ℕ
-guard_words true = codes " guarded"
-guard_words false = []
-
 -- the rights of memory
 abbrev pub rights_words : AddressMemory → List ℕ
 rights_words m = concat (codes ", memory " ∷ right_letter (codes "r") m.is_readable
     ∷ right_letter (codes "w") m.is_writable ∷ right_letter (codes "x") m.is_executable
-    ∷ guard_words m.is_guarded ∷ [])
+    ∷ words_if m.is_guarded (codes " guarded") ∷ [])
 
 -- its memory, by the state and then by the rights
 abbrev pub state_words : RegionState → AddressMemory → List ℕ
@@ -65,17 +53,18 @@ abbrev pub memory_words : Option AddressMemory → List ℕ
 memory_words (Some m) = state_words m.state m
 memory_words None = []
 
--- all of it, by the unloaded modules and the threads
+-- all of it, by the unloaded modules and the threads, and that the processor can't access it
 abbrev pub address_words : List UnloadedModuleValue → List ThreadValue → AddressFacts → List ℕ
-address_words unloaded threads a = null_words a.null_offset ++ (canonical_words a.is_canonical
+address_words unloaded threads a = null_words a.null_offset
+    ++ (words_if (not a.is_canonical) (codes ", not canonical")
     ++ (unloaded_words (option_and_then (slice_get unloaded) a.unloaded)
     ++ (thread_words (codes ", in the stack of thread ")
     (option_and_then (slice_get threads) a.stack_of)
     ++ (thread_words (codes ", below the stack of thread ")
     (option_and_then (slice_get threads) a.below_stack) ++ memory_words a.memory))))
 
--- the line of an address after its name, with the words for its module, or these where no module has
--- it, and what is known of it
+-- the line of an address after its name, with the words for its module, or these where no module
+-- has it, and what is known of it
 unfoldable pub address_line : CrashValue → List ℕ → List ℕ → List ℕ → AddressFacts → List ℕ
 address_line c indent name nowhere a = concat (indent ∷ name ∷ codes " " ∷ hex a.address
     ∷ place_text c.modules.loaded nowhere a.«module»

@@ -8,13 +8,13 @@ use Rattle.minidump.specs.Below.Bytes.Piece.{hex}
 use Rattle.minidump.specs.Below.Format.Error.{name_of_error}
 use Rattle.minidump.specs.Below.Format.StreamType.{stream_type_of, type_name}
 use Rattle.crash.specs.declared.damage.Damage.{Damage}
-use Rattle.crash.specs.declared.damage.Damage.TheVariants.{Exception, ExceptionContext, Stack, Stream}
-use Rattle.crash.specs.declared.damage.Damage.TheVariants.{ThreadContext}
+use Rattle.crash.specs.declared.damage.Damage.TheVariants.{Exception, ExceptionContext, Stack}
+use Rattle.crash.specs.declared.damage.Damage.TheVariants.{Stream, ThreadContext}
 use Rattle.crash.specs.declared.unreadable_modules.ModulePart.{ModulePart}
 use Rattle.crash.specs.declared.unreadable_modules.ModulePart.TheVariants.{CodeView, Name}
 use Rattle.crash.specs.declared.unreadable_modules.UnreadableModule.{UnreadableModule}
 use Rattle.crash.specs.Crash.{CrashValue}
-use Rattle.crash_text.specs.Words.{id_row}
+use Rattle.crash_text.specs.Words.{id_text}
 
 -- the name of a type of stream, where it has one
 abbrev pub name_of_type : ℕ → Option MINIDUMP_STREAM_TYPE → List ℕ
@@ -32,11 +32,13 @@ stream_row stream error = concat (codes "can't be read: " ∷ stream ∷ codes "
 -- the line of something that can't be read, or of bytes that are not in the file
 abbrev pub damage_row : Damage → List ℕ
 damage_row (Stream number error) = stream_row (stream_text number) (name_of_error error)
-damage_row (Exception error) = stream_row (codes "an exception before the last") (name_of_error error)
+damage_row (Exception error) =
+    stream_row (codes "an exception before the last") (name_of_error error)
 damage_row (ExceptionContext thread) =
-    id_row (codes "outside the file: the context of the exception on thread ") thread
-damage_row (ThreadContext thread) = id_row (codes "outside the file: the context of thread ") thread
-damage_row (Stack thread) = id_row (codes "outside the file: the stack of thread ") thread
+    id_text (codes "outside the file: the context of the exception on thread ") thread
+damage_row (ThreadContext thread) =
+    id_text (codes "outside the file: the context of thread ") thread
+damage_row (Stack thread) = id_text (codes "outside the file: the stack of thread ") thread
 
 -- the words for a part of a module's entry
 abbrev pub part_words : ModulePart → List ℕ

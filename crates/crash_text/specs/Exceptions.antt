@@ -16,7 +16,7 @@ use Rattle.crash_text.specs.Lines.{if_some}
 use Rattle.crash_text.specs.Point.{point_lines}
 use Rattle.crash_text.specs.Records.{described_text, record_text}
 use Rattle.crash_text.specs.Registers.{registers_lines}
-use Rattle.crash_text.specs.Words.{id_row, or_empty, text_lines, unless_empty}
+use Rattle.crash_text.specs.Words.{count_row, id_text, or_empty, text_lines, unless_empty}
 
 -- ---- the crash
 
@@ -27,7 +27,7 @@ code_line e =
 
 -- the crash, by the exception that counts, with LLDB's description of it
 abbrev pub counted_lines : CrashValue → ExceptionValue → List (List ℕ)
-counted_lines c e = id_row (codes "crashed thread ") e.thread
+counted_lines c e = id_text (codes "crashed thread ") e.thread
     ∷ (if_some (address_lines c) c.cause.address
     ++ (text_lines (codes "reason  ") e.reason
     ++ (code_line e
@@ -49,17 +49,13 @@ context_words (Some (NotAccepted size)) = codes ", no context that can be read"
 context_words (Some NoSystem) = []
 context_words None = []
 
--- the line of an exception with its number: its thread, its code, where it happened, its address, the
--- reason, what else its record and LLDB say, and why its context can't be read
-unfoldable pub read_row : ℕ → ExceptionValue → List ℕ → List ℕ → List ℕ
-read_row number e address said = concat (codes "    #" ∷ decimal number ∷ codes " thread "
-    ∷ decimal e.thread ∷ codes " (" ∷ hex e.thread ∷ codes "), code " ∷ hex e.code ∷ codes " at "
-    ∷ hex e.at ∷ address ∷ unless_empty (codes ", ") (or_empty e.reason) ∷ or_empty e.reason
-    ∷ said ∷ context_words e.context_problem ∷ [])
-
--- the same by the exception alone
-abbrev pub read_line : ℕ → ExceptionValue → List ℕ
-read_line number e = read_row number e (address_text e.at e.address) (described_text e)
+-- the line of an exception with its number: its thread, its code, where it happened, its address,
+-- the reason, what else its record and LLDB say, and why its context can't be read
+unfoldable pub read_line : ℕ → ExceptionValue → List ℕ
+read_line number e = concat (codes "    #" ∷ decimal number ∷ id_text (codes " thread ") e.thread
+    ∷ codes ", code " ∷ hex e.code ∷ codes " at " ∷ hex e.at ∷ address_text e.at e.address
+    ∷ unless_empty (codes ", ") (or_empty e.reason) ∷ or_empty e.reason ∷ described_text e
+    ∷ context_words e.context_problem ∷ [])
 
 -- the line of one that can't be read
 unfoldable pub unread_row : ℕ → List ℕ → List ℕ
@@ -69,7 +65,7 @@ unread_row number error = concat (codes "    #" ∷ decimal number ∷ codes " c
 -- the line of an exception, or of why it can't be read
 abbrev pub exception_line : ℕ → Result ExceptionValue Error → List ℕ
 exception_line number (Ok e) = read_line number e
-exception_line number (Err e) = unread_row number (name_of_error e)
+exception_line number (Err error) = unread_row number (name_of_error error)
 
 -- each of them
 abbrev pub each_exception : List (Result ExceptionValue Error) → List (List ℕ)
@@ -79,7 +75,7 @@ each_exception exceptions = map (λ p. exception_line p.0 p.1) (enumerate_from 0
 unfoldable pub several_row : ℕ → Option ℕ → List ℕ
 several_row count (Some counts) = concat (codes "exceptions " ∷ decimal count
     ∷ codes ", of which number " ∷ decimal counts ∷ codes " counts" ∷ [])
-several_row count None = concat (codes "exceptions " ∷ decimal count ∷ [])
+several_row count None = count_row (codes "exceptions") count
 
 -- the exceptions, where there are several
 abbrev pub several_lines : List (Result ExceptionValue Error) → Option ℕ → List (List ℕ)

@@ -20,6 +20,7 @@ use Rattle.crash.specs.Modules.{LoadedValue}
 use Rattle.crash_symbols.specs.Backtraces.{BacktraceValue}
 use Rattle.crash_symbols.specs.NameParts.{source_of}
 use Rattle.crash_symbols.specs.Names.{CallValue, NamedFrameValue, SourceValue}
+use Rattle.crash_symbols.specs.Shown.{all_frames, first_frames}
 use Rattle.crash_text.specs.declared.entries.FrameEntry.{FrameEntry}
 use Rattle.crash_text.specs.declared.limits.TextLimits.{TextLimits}
 use Rattle.crash_text.specs.Page.{PageValue}
@@ -110,17 +111,13 @@ source_text None = []
 abbrev pub printed_address : CrashFrame → ℕ
 printed_address f = unwrap_or f.address f.instruction
 
--- the line of a frame: its number, its address, the words for its function, its source line and its
+-- the line of a frame or a call: its number, its address, its function, its source line, its
 -- module, and how it was found
-unfoldable pub frame_row : ℕ → CrashFrame → List ℕ → List ℕ → List ℕ → List ℕ → List ℕ
-frame_row number f name source place found = concat (codes "    #" ∷ decimal number ∷ codes " "
-    ∷ hex (printed_address f) ∷ name ∷ source ∷ place ∷ found ∷ [])
-
--- the line of a frame or a call by the modules
-abbrev pub entry_line : List LoadedValue → ℕ → EntryValue → List ℕ
-entry_line modules number e = frame_row number e.frame (name_text e.function e.offset)
-    (source_text e.source) (place_text modules (codes " in no module") e.frame.«module»)
-    (found_text e.is_inline e.frame.trust)
+unfoldable pub entry_line : List LoadedValue → ℕ → EntryValue → List ℕ
+entry_line modules number e = concat (codes "    #" ∷ decimal number ∷ codes " "
+    ∷ hex (printed_address e.frame) ∷ name_text e.function e.offset ∷ source_text e.source
+    ∷ place_text modules (codes " in no module") e.frame.«module»
+    ∷ found_text e.is_inline e.frame.trust ∷ [])
 
 -- frames and calls, each with its number
 abbrev pub each_entry : List LoadedValue → List EntryValue → List (List ℕ)
@@ -128,15 +125,11 @@ each_entry modules entries = map (λ p. entry_line modules p.0 p.1) (enumerate_f
 
 -- ---- the frames of a thread
 
--- the frames and the candidates after them
-abbrev pub all_frames : BacktraceValue → List NamedFrameValue
-all_frames w = w.frames ++ w.candidates
-
 -- the frames of a thread that are printed: as many as the limit says, of the frames and the
 -- candidates, or the first alone
 abbrev pub printed_frames : TextLimits → Bool → BacktraceValue → List NamedFrameValue
 printed_frames limits is_whole w =
-    if is_whole then take limits.frames (all_frames w) else take 1 w.frames
+    if is_whole then first_frames limits.frames w else take 1 w.frames
 
 -- the line of the number of frames that are not printed, where there are any beyond the limit
 unfoldable pub hidden_lines : ℕ → ℕ → List (List ℕ)
@@ -155,8 +148,8 @@ end_text (Walk NoCode) = codes "return address in no module"
 end_text NoReturnRule = codes "no rule for the return address"
 end_text ZeroReturnAddress = codes "return address of 0"
 
--- what comes after the frames of a thread whose frames are all printed: how many more there are, and
--- the end of its walk
+-- what comes after the frames of a thread whose frames are all printed: how many more there are,
+-- and the end of its walk
 unfoldable pub rest_lines : TextLimits → BacktraceValue → List (List ℕ)
 rest_lines limits w = hidden_lines limits.frames (length (all_frames w))
     ++ concat (codes "    end: " ∷ end_text w.end ∷ []) ∷ []

@@ -1,6 +1,6 @@
 -- The lines of the lists of a dump: how many items each has and, if lists are asked for, the items.
-use Rattle.std.specs.Prelude.{ℕ, ◌++◌, ◌||◌, Bool, true, is_none, List, [], ◌∷◌, length, map, Option}
-use Rattle.std.specs.Prelude.{Some, None, Result, Ok, Err, codes, if◌then◌else◌}
+use Rattle.std.specs.Prelude.{ℕ, ◌++◌, ◌||◌, Bool, true, is_none, List, [], ◌∷◌, length, map}
+use Rattle.std.specs.Prelude.{Option, Some, None, Result, Ok, Err, codes, if◌then◌else◌}
 use Rattle.std.specs.Fmt.{decimal}
 use Rattle.std.specs.List.{concat}
 use Rattle.std.specs.Str.Lossy.{utf8_lossy}
@@ -124,8 +124,8 @@ variable_row name value = concat (codes "environment " ∷ name ∷ codes "=" �
 abbrev pub variable_line : List ℕ × List ℕ → List ℕ
 variable_line p = variable_row (utf8_lossy p.0) (utf8_lossy p.1)
 
--- the environment, where its stream can be read: the number of variables, and only if they are asked
--- for themselves their lines
+-- the environment, where its stream can be read: the number of variables, and only if they are
+-- asked for themselves their lines
 abbrev pub environment_lines : TextLimits → Result (List ℕ) Error → List (List ℕ)
 environment_lines limits (Ok text) = list_lines limits.environment (codes "environment variables")
     variable_line (pairs_of 0x3d text)

@@ -49,8 +49,8 @@ object_row e = annotation_row (e.0, annotation_text e.1)
 
 -- the annotations of a module: its list of texts, its dictionary, and those that have a type
 abbrev pub annotation_lines : Module → List (List ℕ)
-annotation_lines m = map unnamed_row m.list_annotations ++ (map annotation_row m.simple_annotations
-    ++ map object_row m.annotation_objects)
+annotation_lines m = map unnamed_row m.list_annotations
+    ++ (map annotation_row m.simple_annotations ++ map object_row m.annotation_objects)
 
 -- whether a module has annotations
 abbrev pub has_annotations : Module → Bool

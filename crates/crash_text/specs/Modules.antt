@@ -1,5 +1,5 @@
--- The lines of modules: how many there are, and those that have the address of the crash or a printed
--- frame, in the order of their addresses, with what a symbol server is asked by.
+-- The lines of modules: how many there are, and those that have the address of the crash or a
+-- printed frame, in the order of their addresses, with what a symbol server is asked by.
 use Rattle.std.specs.Prelude.{ℕ, ◌≡◌, ◌<◌, ◌==◌, ◌||◌, Bool, false, true, List, [], ◌∷◌, bytes_eq}
 use Rattle.std.specs.Prelude.{get_or, length, Option, Some, None, codes, if◌then◌else◌, slice_get}
 use Rattle.std.specs.List.{concat, flat_map, list_any}
@@ -57,8 +57,8 @@ symbols_text (Some s) index = state_text (state_at s.states index)
 symbols_text None index = []
 
 -- the line of a module: its base address, its end where all modules are asked for, its path, its
--- version, and what a symbol server is asked by: the names and the identifiers of its debug file and
--- of its code file; and the words for its symbols
+-- version, and what a symbol server is asked by: the names and the identifiers of its debug file
+-- and of its code file; and the words for its symbols
 unfoldable pub module_line : Bool → LoadedValue → List ℕ → List ℕ
 module_line is_asked m symbols = concat (codes "    " ∷ hex m.base ∷ end_text is_asked m.end
     ∷ codes " " ∷ m.path ∷ version_text m.version

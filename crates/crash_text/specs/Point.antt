@@ -31,7 +31,8 @@ set_words name = concat (codes " " ∷ name ∷ [])
 -- the line of the flags that are set, where there are any
 abbrev pub set_lines : List (List ℕ) → List (List ℕ)
 set_lines [] = []
-set_lines (name ∷ names) = text_row (codes "    flags set:") (flat_map set_words (name ∷ names)) ∷ []
+set_lines (name ∷ names) =
+    text_row (codes "    flags set:") (flat_map set_words (name ∷ names)) ∷ []
 
 -- ---- the registers
 
@@ -83,14 +84,11 @@ unfoldable pub word_line : List LoadedValue → StackWord → List ℕ
 word_line modules w = concat (codes "    " ∷ hex w.address ∷ codes " " ∷ hex w.value
     ∷ place_text modules [] w.«module» ∷ [])
 
--- the heading of words, where there are any
-abbrev pub words_heading : List StackWord → List (List ℕ)
-words_heading [] = []
-words_heading (_ ∷ _) = codes "words at the stack pointer" ∷ []
-
--- the words of a stack
+-- the words of a stack, after a heading where there are any
 abbrev pub words_lines : List LoadedValue → List StackWord → List (List ℕ)
-words_lines modules words = words_heading words ++ map (word_line modules) words
+words_lines modules [] = []
+words_lines modules (w ∷ ws) =
+    codes "words at the stack pointer" ∷ map (word_line modules) (w ∷ ws)
 
 -- ---- all of it
 

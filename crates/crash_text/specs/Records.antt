@@ -10,6 +10,7 @@ use Rattle.crash.specs.declared.records.SignalCode.{SignalCode}
 use Rattle.crash.specs.declared.records.Sender.{Sender}
 use Rattle.crash.specs.Cause.{ExceptionValue}
 use Rattle.crash.specs.Records.{signal_code_name}
+use Rattle.crash_text.specs.Words.{id_text}
 
 -- a number after these words, and nothing for 0
 abbrev pub unless_zero : List ℕ → ℕ → List ℕ
@@ -29,8 +30,7 @@ user_words None = []
 
 -- the process that sent a signal, by its id
 abbrev pub process_words : Option ℕ → List ℕ
-process_words (Some id) = concat (codes ", sent by process " ∷ decimal id ∷ codes " (" ∷ hex id
-    ∷ codes ")" ∷ [])
+process_words (Some id) = id_text (codes ", sent by process ") id
 process_words None = codes ", sent by an unknown process"
 
 -- how it was sent, by the name of its `si_code`
@@ -58,8 +58,8 @@ record_words e flags parameters = unless_zero (codes ", flags ") flags
     ++ (unless_zero (codes ", nested record at ") e.nested
     ++ (access_words e.access ++ (sender_words e.sender ++ parameters_words parameters)))
 
--- LLDB's description of an exception is written over its parameters, by a mark in its flags: neither
--- is printed as numbers then
+-- LLDB's description of an exception is written over its parameters, by a mark in its flags:
+-- neither is printed as numbers then
 abbrev pub words_beside : Option (List ℕ) → ExceptionValue → List ℕ
 words_beside (Some _) e = record_words e 0 []
 words_beside None e = record_words e e.flags e.parameters

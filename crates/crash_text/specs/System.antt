@@ -10,10 +10,11 @@ use Rattle.crash.specs.Crash.{CrashValue}
 use Rattle.crash.specs.Process.{ProcessFacts, SystemValue}
 use Rattle.crash.specs.Release.{ReleaseValue}
 use Rattle.crash_text.specs.Lines.{if_ok, if_some}
-use Rattle.crash_text.specs.Words.{id_row, missing_lines, or_empty, text_lines, text_row, unless_empty}
+use Rattle.crash_text.specs.Words.{id_text, missing_lines, or_empty, text_lines, text_row}
+use Rattle.crash_text.specs.Words.{unless_empty}
 
--- the line of a system by the names of its kind and of its processor: its version and its build, and
--- how many processors there are
+-- the line of a system by the names of its kind and of its processor: its version and its build,
+-- and how many processors there are
 unfoldable pub system_row : List ℕ → List ℕ → SystemValue → List ℕ
 system_row os cpu s = concat (codes "system  " ∷ os ∷ codes " " ∷ s.version
     ∷ unless_empty (codes " ") (or_empty s.build) ∷ or_empty s.build ∷ codes " on " ∷ cpu
@@ -63,8 +64,8 @@ said_lines p = text_lines (codes "command ") p.command_line
 
 -- its numbers: its id and that of its parent, for how long it ran, and how much of it was in memory
 abbrev pub number_lines : ProcessFacts → List (List ℕ)
-number_lines p = if_some (λ id. id_row (codes "process ") id ∷ []) p.id
-    ++ (if_some (λ id. id_row (codes "parent  ") id ∷ []) p.parent
+number_lines p = if_some (λ id. id_text (codes "process ") id ∷ []) p.id
+    ++ (if_some (λ id. id_text (codes "parent  ") id ∷ []) p.parent
     ++ (if_some (λ n. amount_row (codes "uptime  ") n (codes " s") ∷ []) p.uptime
     ++ if_some (λ n. amount_row (codes "resident ") n (codes " bytes") ∷ []) p.resident))
 

@@ -14,20 +14,16 @@ use Rattle.crash_text.specs.Page.{PageValue}
 use Rattle.crash_text.specs.System.{head_lines}
 use Rattle.crash_text.specs.Threads.{crashed_lines, each_other}
 
--- that nothing crashed, the system, the process and the crash
+-- that nothing crashed, the system, the process, the crash, and what can't be read
 abbrev pub first_lines : CrashValue → List (List ℕ)
 first_lines c = none_lines c.cause.exceptions
     ++ (head_lines c ++ (crash_lines c ++ damage_lines c))
 
--- the thread that crashed, what the process said, and the other threads
-abbrev pub threads_lines : PageValue → List (List ℕ)
-threads_lines p = crashed_lines p
-    ++ (messages_lines p.crash.contents.messages ++ each_other p p.crash.threads.threads)
-
 -- the lines of a crash, in their order
 abbrev pub lines_of : PageValue → List (List ℕ)
-lines_of p = first_lines p.crash ++ (threads_lines p
-    ++ (modules_lines p p.crash.contents.space.modules_error ++ lists_lines p))
+lines_of p = first_lines p.crash ++ (crashed_lines p
+    ++ (messages_lines p.crash.contents.messages ++ (each_other p p.crash.threads.threads
+    ++ (modules_lines p p.crash.contents.space.modules_error ++ lists_lines p))))
 
 -- the text of a crash: its lines, each as it is printed, with symbols where they are known
 abbrev pub text_of : TextLimits → Option SymbolizedValue → CrashValue → List ℕ

@@ -1,16 +1,14 @@
 -- The lines of threads.
 use Rattle.std.specs.Prelude.{ℕ, ◌++◌, ◌==◌, ◌&&◌, ◌||◌, Bool, false, true, List, [], ◌∷◌, Option}
-use Rattle.std.specs.Prelude.{Some, None, codes, if◌then◌else◌, is_none, map}
-use Rattle.std.specs.Fmt.{decimal}
+use Rattle.std.specs.Prelude.{Some, None, codes, if◌then◌else◌, is_none, map, not}
 use Rattle.std.specs.List.{concat, enumerate_from, flat_map}
 use Rattle.minidump.specs.Below.Bytes.Piece.{hex}
 use Rattle.crash.specs.declared.contexts.ContextProblem.{ContextProblem}
 use Rattle.crash.specs.declared.contexts.ContextProblem.TheVariants.{NoSystem, NotAccepted, Outside}
 use Rattle.crash.specs.declared.frames.CrashFrame.{CrashFrame}
 use Rattle.crash.specs.declared.stacks.StackRange.{StackRange}
-use Rattle.crash.specs.Contexts.{ContextValue}
 use Rattle.crash.specs.Process.{SystemValue}
-use Rattle.crash.specs.Threads.{ThreadValue, crashed_thread}
+use Rattle.crash.specs.Threads.{ThreadValue, crashed_thread, short_context}
 use Rattle.crash_symbols.specs.Backtraces.{BacktraceValue}
 use Rattle.crash_symbols.specs.Shown.{shown_in}
 use Rattle.crash_text.specs.declared.limits.TextLimits.{TextLimits}
@@ -18,23 +16,20 @@ use Rattle.crash_text.specs.Frames.{printed_frames, walk_lines}
 use Rattle.crash_text.specs.Lines.{if_some}
 use Rattle.crash_text.specs.Page.{PageValue}
 use Rattle.crash_text.specs.Registers.{short_row}
-use Rattle.crash_text.specs.Words.{missing_lines, or_empty, text_lines, where_some}
+use Rattle.crash_text.specs.Words.{id_text, missing_lines, or_empty, text_lines, where_some}
+use Rattle.crash_text.specs.Words.{words_if}
 
 -- ---- a thread
 
--- the remark at a thread that the list of threads lacks
-abbrev pub remark : Bool → List ℕ
-remark true = []
-remark false = codes ", not in the list of threads"
-
--- the line of a thread: its id, its name where it has one, and a remark
-unfoldable pub thread_row : ℕ → Option (List ℕ) → List ℕ → List ℕ
-thread_row id name words = concat (codes "thread " ∷ decimal id ∷ codes " (" ∷ hex id ∷ codes ")"
-    ∷ where_some (codes " \"") name ∷ or_empty name ∷ where_some (codes "\"") name ∷ words ∷ [])
+-- the line of a thread: its id, its name where it has one, and whether the list of threads lacks it
+unfoldable pub thread_row : ThreadValue → List ℕ
+thread_row t = concat (id_text (codes "thread ") t.id ∷ where_some (codes " \"") t.name
+    ∷ or_empty t.name ∷ where_some (codes "\"") t.name
+    ∷ words_if (not t.is_listed) (codes ", not in the list of threads") ∷ [])
 
 -- how much there is of the context of its registers, where that is cut
-abbrev pub short_lines : ContextValue → List (List ℕ)
-short_lines c = if_some (λ s. short_row (codes "    ") [] s ∷ []) c.short
+abbrev pub short_lines : ThreadValue → List (List ℕ)
+short_lines t = if_some (λ s. short_row (codes "    ") [] s ∷ []) (short_context t)
 
 -- the line of a range of addresses
 unfoldable pub range_row : List ℕ → StackRange → List ℕ
@@ -62,8 +57,8 @@ no_walk_row (Some _) (Some Outside) = codes "    its context is outside the file
 no_walk_row (Some _) _ = codes "    no context that can be read"
 no_walk_row None problem = codes "    no frames without system information"
 
--- why the own context of a thread isn't used, whose frames are those of the exception's context. That
--- the system is unknown is said elsewhere
+-- why the own context of a thread isn't used, whose frames are those of the exception's context.
+-- That the system is unknown is said elsewhere
 abbrev pub own_lines : Option ContextProblem → List (List ℕ)
 own_lines (Some Outside) = codes "    its own context is outside the file" ∷ []
 own_lines (Some (NotAccepted size)) = codes "    its own context can't be read" ∷ []
@@ -75,16 +70,12 @@ abbrev pub found_lines : PageValue → Bool → ThreadValue → Option Backtrace
 found_lines p is_whole t (Some w) = own_lines t.context_problem ++ walk_lines p is_whole w
 found_lines p is_whole t None = no_walk_row p.crash.process.system t.context_problem ∷ []
 
--- a thread by its index: also its stack, and the end of its walk, if all of its frames are asked for
-abbrev pub walked_lines : PageValue → Bool → ThreadValue → Option BacktraceValue → List (List ℕ)
-walked_lines p is_whole t walk = thread_row t.id t.name (remark t.is_listed)
-    ∷ (text_lines (codes "    last error ") t.last_error
-    ++ (if_some short_lines t.context
-    ++ ((if is_whole then stack_lines t else []) ++ found_lines p is_whole t walk)))
-
--- the same by its index
+-- a thread by its index, with its stack and the end of its walk if all of its frames are asked for
 abbrev pub thread_lines : PageValue → Bool → ℕ → ThreadValue → List (List ℕ)
-thread_lines p is_whole number t = walked_lines p is_whole t (shown_in p.symbols number t)
+thread_lines p is_whole number t = thread_row t
+    ∷ (text_lines (codes "    last error ") t.last_error ++ (short_lines t
+    ++ ((if is_whole then stack_lines t else [])
+    ++ found_lines p is_whole t (shown_in p.symbols number t))))
 
 -- ---- threads
 

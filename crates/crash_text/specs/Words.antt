@@ -1,6 +1,6 @@
 -- Words of lines.
-use Rattle.std.specs.Prelude.{ℕ, List, [], ◌∷◌, Option, Some, None, Result, Ok, Err, codes, slice_get}
-use Rattle.std.specs.Prelude.{if◌then◌else◌, unwrap_or}
+use Rattle.std.specs.Prelude.{ℕ, Bool, List, [], ◌∷◌, Option, Some, None, Result, Ok, Err, codes}
+use Rattle.std.specs.Prelude.{if◌then◌else◌, slice_get, unwrap_or}
 use Rattle.std.specs.Fmt.{decimal}
 use Rattle.std.specs.List.{concat}
 use Rattle.minidump.specs.declared.Error.{Error}
@@ -12,6 +12,10 @@ use Rattle.crash_text.specs.Lines.{if_some}
 -- a text, or an empty one where there is none
 abbrev pub or_empty : Option (List ℕ) → List ℕ
 or_empty text = unwrap_or text []
+
+-- words where something is so, and else none
+abbrev pub words_if : Bool → List ℕ → List ℕ
+words_if is_so words = if is_so then words else []
 
 -- words before a text, and none before an empty one
 abbrev pub unless_empty : List ℕ → List ℕ → List ℕ
@@ -31,9 +35,9 @@ text_row words text = concat (words ∷ text ∷ [])
 abbrev pub text_lines : List ℕ → Option (List ℕ) → List (List ℕ)
 text_lines words text = if_some (λ text. text_row words text ∷ []) text
 
--- the line of the id of a process or a thread after its words
-unfoldable pub id_row : List ℕ → ℕ → List ℕ
-id_row words id = concat (words ∷ decimal id ∷ codes " (" ∷ hex id ∷ codes ")" ∷ [])
+-- the id of a process or a thread after its words
+unfoldable pub id_text : List ℕ → ℕ → List ℕ
+id_text words id = concat (words ∷ decimal id ∷ codes " (" ∷ hex id ∷ codes ")" ∷ [])
 
 -- the line of the number of something
 unfoldable pub count_row : List ℕ → ℕ → List ℕ

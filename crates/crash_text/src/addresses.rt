@@ -5,15 +5,14 @@ ghost use Rattle.crash.specs.Crash.{crash_of};
 ghost use Rattle.crash.specs.Modules.{unloaded_module_of};
 ghost use Rattle.crash.specs.Threads.{thread_value};
 ghost use Rattle.crash_text.specs.Addresses.{address_line, address_lines, address_words};
-ghost use Rattle.crash_text.specs.Addresses.{canonical_words, guard_words, memory_words};
-ghost use Rattle.crash_text.specs.Addresses.{null_words, path_words, right_letter, rights_words};
-ghost use Rattle.crash_text.specs.Addresses.{thread_words, unloaded_words};
+ghost use Rattle.crash_text.specs.Addresses.{memory_words, null_words, path_words, right_letter};
+ghost use Rattle.crash_text.specs.Addresses.{rights_words, thread_words, unloaded_words};
 ghost use Rattle.crash_text.specs.Lines.{Adds, if_some};
 
 use crate::lines::{Added, push_line};
-use crate::words::place_text;
+use crate::words::{place_text, push_id_text, words_if};
 use crash::{AddressFacts, AddressMemory, Crash, CrashThread, RegionState, UnloadedModule};
-use minidump::text::Piece::{Decimal, Hex, Words};
+use minidump::text::Piece::{Hex, Words};
 use minidump::text::push_pieces;
 use std::alloc::{AllocError, Global};
 
@@ -64,7 +63,7 @@ fn address_words(
 {
     let mut words = String::new(alloc);
     push_null(&mut words, facts.null_offset)?;
-    words.push_str(canonical_words(facts.is_canonical))?;
+    words.push_str(words_if(!facts.is_canonical, ", not canonical"))?;
     push_unloaded(&mut words, unloaded_at(unloaded, facts.unloaded))?;
     let inside = thread_at(threads, facts.stack_of);
     push_thread(&mut words, ", in the stack of thread ", inside)?;
@@ -82,13 +81,6 @@ fn push_null(words: &mut String, offset: Option<u64>) -> Added
         Some(offset) => push_pieces(words, &[Words(", null + "), Hex(offset)]),
         None => Ok(()),
     }
-}
-
-// Returns the words for an address that the processor can't access.
-fn canonical_words(is_canonical: bool) -> &'static str
-    ensures { result.now ≡ canonical_words is_canonical }
-{
-    if is_canonical { "" } else { ", not canonical" }
 }
 
 // Returns the unloaded module of an index.
@@ -126,16 +118,12 @@ fn thread_at(threads: &[CrashThread], index: Option<usize>) -> Option<&CrashThre
 }
 
 // Appends a thread after its words.
-#[rattlefmt::skip]
 fn push_thread(words: &mut String, name: &str, thread: Option<&CrashThread>) -> Added
     ensures { OnOk result (string_bytes words.new ≡ string_bytes words.old
         ++ thread_words name.now (option_map thread_value (option_copied thread.entry))) }
 {
     match thread {
-        Some(thread) => {
-            let id = thread.id as u64;
-            push_pieces(words, &[Words(name), Decimal(id), Words(" ("), Hex(id), Words(")")])
-        }
+        Some(thread) => push_id_text(words, name, thread.id),
         None => Ok(()),
     }
 }
@@ -162,7 +150,8 @@ fn push_rights(words: &mut String, memory: AddressMemory) -> Added
     push_pieces(words, &[
         Words(", memory "), Words(right_letter("r", memory.is_readable)),
         Words(right_letter("w", memory.is_writable)),
-        Words(right_letter("x", memory.is_executable)), Words(guard_words(memory.is_guarded)),
+        Words(right_letter("x", memory.is_executable)),
+        Words(words_if(memory.is_guarded, " guarded")),
     ])
 }
 
@@ -171,11 +160,4 @@ fn right_letter(letter: &'static str, is_there: bool) -> &'static str
     ensures { result.now ≡ right_letter letter.now is_there }
 {
     if is_there { letter } else { "-" }
-}
-
-// Returns the word for memory that is guarded.
-fn guard_words(is_guarded: bool) -> &'static str
-    ensures { result.now ≡ guard_words is_guarded }
-{
-    if is_guarded { " guarded" } else { "" }
 }

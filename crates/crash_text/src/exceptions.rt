@@ -1,20 +1,19 @@
 ghost use Rattle.std.specs.Prelude.{◌≡◌, [], ◌∷◌, IfOk, map, string_bytes};
-ghost use Rattle.std.specs.Option.{option_copied, option_map};
 ghost use Rattle.minidump.specs.Below.Contexts.Context.{map_ok};
 ghost use Rattle.crash.specs.Cause.{exception_of};
 ghost use Rattle.crash.specs.Crash.{crash_of};
 ghost use Rattle.crash_text.specs.Exceptions.{address_text, code_line, context_words};
 ghost use Rattle.crash_text.specs.Exceptions.{counted_lines, crash_lines};
-ghost use Rattle.crash_text.specs.Exceptions.{exception_line, none_lines, read_line, read_row};
+ghost use Rattle.crash_text.specs.Exceptions.{exception_line, none_lines, read_line};
 ghost use Rattle.crash_text.specs.Exceptions.{several_lines, several_row, unread_row};
-ghost use Rattle.crash_text.specs.Lines.{Adds, if_some};
+ghost use Rattle.crash_text.specs.Lines.{Adds};
 
 use crate::addresses::push_address;
 use crate::lines::{Added, push_line};
 use crate::point::push_point;
 use crate::records::{described_text, record_text};
 use crate::registers::push_registers;
-use crate::words::{or_empty, push_id, push_text, push_words, unless_empty};
+use crate::words::{id_text, or_empty, push_count, push_id, push_text, push_words, unless_empty};
 use crash::{ContextProblem, Crash, CrashException};
 use minidump::Error;
 use minidump::text::Piece::{Decimal, Hex, Words};
@@ -25,7 +24,9 @@ use std::alloc::{AllocError, Global};
 pub(crate) fn push_crash(out: &mut String, crash: &Crash<'_>) -> Added
     ensures { Adds out.old out.new (crash_lines (crash_of crash.now)) result }
 {
-    push_counted(out, crash, crash.cause.counted())?;
+    if let Some(exception) = crash.cause.counted() {
+        push_counted(out, crash, exception)?;
+    }
     push_several(out, crash.cause.exceptions.as_slice(), crash.cause.counts)
 }
 
@@ -39,19 +40,8 @@ pub(crate) fn push_none(out: &mut String, exceptions: &[Result<CrashException, E
     }
 }
 
-// Appends the lines of the crash by the exception that counts, if one does.
-fn push_counted(out: &mut String, crash: &Crash<'_>, exception: Option<&CrashException>) -> Added
-    ensures { Adds out.old out.new (if_some (counted_lines (crash_of crash.now))
-        (option_map exception_of (option_copied exception.entry))) result }
-{
-    match exception {
-        Some(exception) => push_counted_lines(out, crash, exception),
-        None => Ok(()),
-    }
-}
-
-// Appends the lines of the crash by an exception.
-fn push_counted_lines(out: &mut String, crash: &Crash<'_>, exception: &CrashException) -> Added
+// Appends the lines of the crash by the exception that counts.
+fn push_counted(out: &mut String, crash: &Crash<'_>, exception: &CrashException) -> Added
     ensures { Adds out.old out.new
         (counted_lines (crash_of crash.now) (exception_of exception.now)) result }
 {
@@ -105,7 +95,7 @@ fn push_several_row(out: &mut String, count: usize, counts: Option<usize>) -> Ad
             Words("exceptions "), Decimal(count as u64), Words(", of which number "),
             Decimal(counts as u64), Words(" counts"),
         ]),
-        None => push_line(out, &[Words("exceptions "), Decimal(count as u64)]),
+        None => push_count(out, "exceptions", count),
     }
 }
 
@@ -135,33 +125,21 @@ fn push_unread_row(out: &mut String, number: usize, error: &str) -> Added
 }
 
 // Appends the line of an exception.
+#[rattlefmt::skip]
+#[tactic(auto, unfolding(crate::specs::Exceptions::read_line))]
 fn push_read(out: &mut String, number: usize, exception: &CrashException) -> Added
     ensures { Adds out.old out.new (read_line number (exception_of exception.now) ∷ []) result }
 {
     let alloc = *out.allocator();
+    let thread = id_text(alloc, " thread ", exception.thread)?;
     let address = address_text(alloc, exception.at, exception.address)?;
     let said = described_text(alloc, exception)?;
-    push_read_row(out, number, exception, address.as_str(), said.as_str())
-}
-
-#[rattlefmt::skip]
-#[tactic(auto, unfolding(crate::specs::Exceptions::read_row))]
-fn push_read_row<'t>(
-    out: &mut String,
-    number: usize,
-    exception: &'t CrashException,
-    address: &'t str,
-    said: &'t str,
-) -> Added
-    ensures { Adds out.old out.new
-        (read_row number (exception_of exception.now) address.now said.now ∷ []) result }
-{
-    let reason = or_empty(&exception.reason);
+    let reason = &exception.reason;
     push_line(out, &[
-        Words("    #"), Decimal(number as u64), Words(" thread "), Decimal(exception.thread as u64),
-        Words(" ("), Hex(exception.thread as u64), Words("), code "), Hex(exception.code as u64),
-        Words(" at "), Hex(exception.at), Words(address), Words(unless_empty(", ", reason)),
-        Words(reason), Words(said), Words(context_words(exception.context_problem)),
+        Words("    #"), Decimal(number as u64), Words(thread.as_str()), Words(", code "),
+        Hex(exception.code as u64), Words(" at "), Hex(exception.at), Words(address.as_str()),
+        Words(unless_empty(", ", or_empty(reason))), Words(or_empty(reason)),
+        Words(said.as_str()), Words(context_words(exception.context_problem)),
     ])
 }
 

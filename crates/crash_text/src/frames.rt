@@ -1,10 +1,9 @@
 ghost use Rattle.std.specs.Prelude.{◌≡◌, [], ◌∷◌, ◌++◌, IfOk, OnOk, map, take};
 ghost use Rattle.crash.specs.Modules.{loaded_of};
 ghost use Rattle.crash_symbols.specs.Shown.{shown_frame_of, shown_of};
-ghost use Rattle.crash_text.specs.Frames.{all_frames, each_entry, end_text, entries_in};
-ghost use Rattle.crash_text.specs.Frames.{entry_line, entry_of, hidden_lines, printed_address};
-ghost use Rattle.crash_text.specs.Frames.{printed_frames, rest_lines, walk_lines};
-ghost use Rattle.crash_text.specs.Frames.{frame_row};
+ghost use Rattle.crash_text.specs.Frames.{each_entry, end_text, entry_line, entry_of};
+ghost use Rattle.crash_text.specs.Frames.{hidden_lines, printed_address, printed_frames};
+ghost use Rattle.crash_text.specs.Frames.{rest_lines, walk_lines};
 ghost use Rattle.crash_text.specs.Lines.{Adds};
 ghost use Rattle.crash_text.specs.Page.{page_of};
 
@@ -31,32 +30,16 @@ pub(crate) fn push_walk(
     ensures { Adds out.old out.new
         (walk_lines (page_of page.entry) is_whole (shown_of walk.now)) result }
 {
-    push_printed(out, page, is_whole, walk)?;
+    let alloc = *out.allocator();
+    let frames = printed_frames(alloc, page.limits, is_whole, walk)?;
+    let entries = entries_in(alloc, frames.as_slice())?;
+    let modules = page.crash.modules.loaded.as_slice();
+    push_each(out, modules, entries.as_slice())?;
     if is_whole {
         push_rest(out, page.limits, walk)
     } else {
         Ok(())
     }
-}
-
-// Appends the lines of the frames that are printed.
-fn push_printed(
-    out: &mut String,
-    page: Page<'_, '_, '_, '_>,
-    is_whole: bool,
-    walk: &ShownWalk<'_, '_>,
-) -> Added
-    ensures { Adds out.old out.new (each_entry (page_of page.entry).crash.modules.loaded (entries_in
-        (printed_frames (page_of page.entry).limits is_whole (shown_of walk.now)))) result }
-{
-    let alloc = *out.allocator();
-    let frames = printed_frames(alloc, page.limits, is_whole, walk)?;
-    let entries = entries_in(alloc, frames.as_slice())?;
-    push_each(
-        out,
-        page.crash.modules.loaded.as_slice(),
-        entries.as_slice(),
-    )
 }
 
 // Returns the frames of a walk that are printed.
@@ -71,8 +54,7 @@ fn printed_frames<'s, 'l>(
         ≡ printed_frames limits.now is_whole (shown_of walk.now)) }
 {
     if is_whole {
-        let all = all_frames(alloc, walk)?;
-        Vec::from_slice(alloc, first_of(all.as_slice(), limits.frames))
+        walk.first_frames(alloc, limits.frames)
     } else {
         Vec::from_slice(alloc, first_of(walk.frames.as_slice(), 1))
     }
@@ -93,20 +75,6 @@ pub(crate) fn push_frames_of(
         frames.push(shown.frame)?;
     }
     Ok(())
-}
-
-// Returns the frames of a walk, and the candidates after them.
-fn all_frames<'s, 'l>(
-    alloc: Global,
-    walk: &ShownWalk<'s, 'l>,
-) -> Result<Vec<ShownFrame<'s, 'l>>, AllocError>
-    ensures { IfOk result
-        (λ frames. map shown_frame_of frames.items ≡ all_frames (shown_of walk.now)) }
-{
-    let mut frames = Vec::new(alloc);
-    frames.extend_from_slice(walk.frames.as_slice())?;
-    frames.extend_from_slice(walk.candidates.as_slice())?;
-    Ok(frames)
 }
 
 // Returns the first frames, at most so many.
@@ -132,6 +100,8 @@ fn push_each(out: &mut String, modules: &[CrashModule], entries: &[FrameEntry<'_
 }
 
 // Appends the line of a frame or a call.
+#[rattlefmt::skip]
+#[tactic(auto, unfolding(crate::specs::Frames::entry_line))]
 fn push_entry(
     out: &mut String,
     modules: &[CrashModule],
@@ -146,27 +116,9 @@ fn push_entry(
     let source = source_text(alloc, entry.source)?;
     let place = place_text(alloc, modules, " in no module", entry.frame.module)?;
     let found = found_text(entry.is_inline, entry.frame.trust);
-    let (name, source, place) = (name.as_str(), source.as_str(), place.as_str());
-    push_row(out, number, &entry.frame, name, source, place, found)
-}
-
-#[rattlefmt::skip]
-#[tactic(auto, unfolding(crate::specs::Frames::frame_row))]
-fn push_row<'x>(
-    out: &mut String,
-    number: usize,
-    frame: &CrashFrame,
-    name: &'x str,
-    source: &'x str,
-    place: &'x str,
-    found: &'x str,
-) -> Added
-    ensures { Adds out.old out.new
-        (frame_row number frame.now name.now source.now place.now found.now ∷ []) result }
-{
     push_line(out, &[
-        Words("    #"), Decimal(number as u64), Words(" "), Hex(printed_address(frame)),
-        Words(name), Words(source), Words(place), Words(found),
+        Words("    #"), Decimal(number as u64), Words(" "), Hex(printed_address(&entry.frame)),
+        Words(name.as_str()), Words(source.as_str()), Words(place.as_str()), Words(found),
     ])
 }
 

@@ -5,9 +5,9 @@
 //!
 //! - `no exception`, if the dump has none;
 //! - the system with its processor and the microcode of that, the release of Linux, the arguments
-//!   with which macOS was booted, the date of the dump in UTC, the id of the process and that of its
-//!   parent, for how long it ran, how much of it was in memory, its command line, and the comments of
-//!   the dump;
+//!   with which macOS was booted, the date of the dump in UTC, the id of the process and that of
+//!   its parent, for how long it ran, how much of it was in memory, its command line, and the
+//!   comments of the dump;
 //! - of the exception that counts the thread, the address with its module, the reason, the code
 //!   and where it happened, and LLDB's description, which is printed in place of its flags and
 //!   parameters; the registers of the thread, four a row, how much of their context there is if
@@ -26,11 +26,12 @@
 //!   Mozilla's soft errors;
 //! - each other thread with its name, its last error and its first frame, or as the one that
 //!   crashed if all threads are asked for, or none crashed;
-//! - the number of modules; then each module that has the address of the crash or a printed frame, in
-//!   the order of their addresses: its base address, its path, its version unless that is 0.0.0.0, and
-//!   what a symbol server needs: the name and the identifier of its debug file and of its code file.
-//!   Where all modules are asked for, each has a line, and the unloaded ones do below their number,
-//!   in which the address after it follows its base address, as `0x400000-0x410000`;
+//! - the number of modules; then each module that has the address of the crash or a printed frame,
+//!   in the order of their addresses: its base address, its path, its version unless that is
+//!   0.0.0.0, and what a symbol server needs: the name and the identifier of its debug file and of
+//!   its code file. Where all modules are asked for, each has a line, and the unloaded ones do
+//!   below their number, in which the address after it follows its base address, as
+//!   `0x400000-0x410000`;
 //! - the numbers of unloaded modules, streams, regions of memory, maps and handles, with a line for
 //!   each kind of handles, and Linux's numbers of limits and of variables of the environment.
 //!
@@ -38,11 +39,11 @@
 //! found. The address of a caller lies in its call, below the return address. The candidates
 //! of the stack follow the frames, numbered on.
 //!
-//! By symbols the frames are those of the backtraces that they give. A frame's line has its function,
-//! with the offset in it, and its source line, where they are known. Before it comes a line for each
-//! inlined call there, with the same address, numbered too. A module's line says if its symbols are
-//! missing, damaged or another module's, or if memory ran out for them. A name that isn't UTF-8 has
-//! U+FFFD in place of what is malformed.
+//! By symbols the frames are those of the backtraces that they give. A frame's line has its
+//! function, with the offset in it, and its source line, where they are known. Before it comes a
+//! line for each inlined call there, with the same address, numbered too. A module's line says if
+//! its symbols are missing, damaged or another module's, or if memory ran out for them. A name that
+//! isn't UTF-8 has U+FFFD in place of what is malformed.
 //!
 //! Where the system information, the exception, the threads or the modules are missing, that is a
 //! line, as `no exception`; any other missing stream has none. What [`TextLimits`] leaves out is

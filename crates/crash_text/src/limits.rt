@@ -12,7 +12,8 @@ pub struct TextLimits {
     /// unloaded ones, with their ends, the streams, the regions of memory, the handles and the
     /// limits of the process, but not the environment.
     pub lists: bool,
-    /// Whether all modules are printed, as [`lists`](TextLimits::lists) does, and the unloaded ones.
+    /// Whether all modules are printed, as [`lists`](TextLimits::lists) does, and the unloaded
+    /// ones.
     pub modules: bool,
     /// Whether the handles are printed, as [`lists`](TextLimits::lists) does.
     pub handles: bool,

@@ -13,8 +13,9 @@ ghost use Rattle.crash_text.specs.Lines.{Adds, if_some};
 ghost use Rattle.crash_text.specs.Lists.{all_handles, entry_line, entry_row, environment_lines};
 ghost use Rattle.crash_text.specs.Lists.{error_words, handle_line, handles_lines, kind_line};
 ghost use Rattle.crash_text.specs.Lists.{limit_line, limits_lines, list_lines, lists_lines};
-ghost use Rattle.crash_text.specs.Lists.{memory_lines, process_lists_lines, region_line, unloaded_line};
-ghost use Rattle.crash_text.specs.Lists.{unloaded_lines, value_text, variable_line, variable_row};
+ghost use Rattle.crash_text.specs.Lists.{memory_lines, process_lists_lines, region_line};
+ghost use Rattle.crash_text.specs.Lists.{unloaded_line, unloaded_lines, value_text};
+ghost use Rattle.crash_text.specs.Lists.{variable_line, variable_row};
 ghost use Rattle.crash_text.specs.Page.{page_of};
 ghost use Rattle.crash_text.specs.Words.{count_row};
 
@@ -24,7 +25,9 @@ use crate::lines::{Added, push_line};
 use crate::modules::{all_modules, end_text, key_text};
 use crate::page::Page;
 use crate::words::{or_empty, push_count, where_some};
-use crash::{HandleKind, ProcessLimit, StreamEntry, UnloadedModule, limits_of, variables_of};
+use crash::{
+    HandleKind, ProcessLimit, StreamEntry, UnloadedModule, limits_of, regions_of, variables_of,
+};
 use minidump::strings::LinuxOsStr;
 use minidump::text::Piece::{Decimal, Hex, Words};
 use minidump::text::format_pieces;
@@ -93,8 +96,8 @@ fn push_unloaded_module(out: &mut String, module: &UnloadedModule) -> Added
     let end = end_text(alloc, true, module.end)?;
     let code = key_text(alloc, ", code ", &module.file, &module.code_id)?;
     push_line(out, &[
-        Words("    "), Hex(module.base), Words(end.as_str()), Words(" "), Words(module.path.as_str()),
-        Words(code.as_str()),
+        Words("    "), Hex(module.base), Words(end.as_str()), Words(" "),
+        Words(module.path.as_str()), Words(code.as_str()),
     ])
 }
 
@@ -177,17 +180,6 @@ fn push_regions(out: &mut String, limits: &TextLimits, memory: &UnifiedMemoryLis
     } else {
         Ok(())
     }
-}
-
-// Returns the regions of memory.
-fn regions_of<'l, 'a>(
-    alloc: Global,
-    memory: &'l UnifiedMemoryList<'a>,
-) -> Result<Vec<UnifiedMemory<'l, 'a>>, AllocError>
-    ensures { IfOk result
-        (λ regions. map unified_region regions.items ≡ unified_regions (unified_list memory.now)) }
-{
-    memory.iter().collect(alloc)
 }
 
 // Appends the lines of regions of memory.
@@ -293,8 +285,8 @@ fn value_text(alloc: Global, value: Option<u64>) -> Result<String, AllocError>
 
 // ---- Linux's limits of the process
 
-// Appends the number of limits of the process, and their lines if lists are asked for, if their stream
-// can be read.
+// Appends the number of limits of the process, and their lines if lists are asked for, if their
+// stream can be read.
 fn push_limits(
     out: &mut String,
     limits: &TextLimits,

@@ -5,7 +5,6 @@ ghost use Rattle.minidump.specs.Below.Contexts.Context.{map_ok};
 ghost use Rattle.minidump.specs.Below.Records.Annotations.{annotation_of};
 ghost use Rattle.minidump.specs.Below.Records.Assertion.{text_or_empty};
 ghost use Rattle.minidump.specs.Below.Records.Crashpad.{module_of};
-ghost use Rattle.minidump.specs.Below.Records.CrashpadText.{annotation_text};
 ghost use Rattle.minidump.specs.Below.Records.Dictionary.{entries_of};
 ghost use Rattle.minidump.specs.Below.Records.Record.{mac_record_of};
 ghost use Rattle.minidump.specs.Promise.{assertion_stream, crashpad_info_stream};
@@ -16,13 +15,13 @@ ghost use Rattle.crash_text.specs.Messages.{annotation_lines, annotation_row, as
 ghost use Rattle.crash_text.specs.Messages.{assertion_row, crashpad_lines, has_annotations};
 ghost use Rattle.crash_text.specs.Messages.{kind_words, mac_number_lines, mac_numbers_lines};
 ghost use Rattle.crash_text.specs.Messages.{mac_text_lines, mac_texts_lines, messages_lines};
-ghost use Rattle.crash_text.specs.Messages.{module_lines, module_row, object_row, record_lines};
-ghost use Rattle.crash_text.specs.Messages.{report_line, report_row, unnamed_row};
+ghost use Rattle.crash_text.specs.Messages.{module_lines, object_row, record_lines, report_line};
+ghost use Rattle.crash_text.specs.Messages.{module_row, report_row, unnamed_row};
 ghost use Rattle.crash_text.specs.Words.{text_row};
 
 use crate::lines::{Added, push_line};
 use crate::words::{push_text_row, unless_empty};
-use crash::MessageStreams;
+use crash::{MessageStreams, annotation_text};
 use minidump::format::MINIDUMP_CRASHPAD_INFO;
 use minidump::own_streams::text_before_nul;
 use minidump::text::Piece::{Decimal, Hex, Words};
@@ -110,20 +109,16 @@ fn push_crashpad(out: &mut String, found: &Result<MinidumpCrashpadInfo, Error>) 
         (if_ok crashpad_lines (map_ok crashpad_info_stream.value found.now)) result }
 {
     match found {
-        Ok(info) => push_info(out, info),
+        Ok(info) => {
+            push_report(out, &info.raw)?;
+            push_texts(out, &info.simple_annotations)?;
+            for module in info.module_list.as_slice() {
+                push_module(out, module)?;
+            }
+            Ok(())
+        }
         Err(_) => Ok(()),
     }
-}
-
-fn push_info(out: &mut String, info: &MinidumpCrashpadInfo) -> Added
-    ensures { Adds out.old out.new (crashpad_lines (crashpad_info_stream.value info.now)) result }
-{
-    push_report(out, &info.raw)?;
-    push_texts(out, &info.simple_annotations)?;
-    for module in info.module_list.as_slice() {
-        push_module(out, module)?;
-    }
-    Ok(())
 }
 
 // Appends the line of the identifiers of Crashpad's report and of its client.
@@ -231,18 +226,6 @@ fn push_annotation<'t>(out: &mut String, name: &'t str, text: &'t str) -> Added
     ensures { Adds out.old out.new (annotation_row (name.now, text.now) ∷ []) result }
 {
     push_line(out, &[Words("annotation "), Words(name), Words(" = "), Words(text)])
-}
-
-// Returns the text of an annotation, or the kind of any other.
-fn annotation_text(annotation: &MinidumpAnnotation) -> &str
-    ensures { result.now ≡ annotation_text (annotation_of annotation.now) }
-{
-    match annotation {
-        MinidumpAnnotation::Invalid => "<invalid>",
-        MinidumpAnnotation::String(text) => text.as_str(),
-        MinidumpAnnotation::UserDefined(_) => "<user defined>",
-        MinidumpAnnotation::Unsupported(_) => "<unsupported>",
-    }
 }
 
 // Appends the texts and the numbers of each record of macOS's crash information.

@@ -1,4 +1,4 @@
-ghost use Rattle.std.specs.Prelude.{◌≡◌, [], ◌∷◌, IfOk, None, Some, codes, false, get_or};
+ghost use Rattle.std.specs.Prelude.{◌≡◌, [], ◌∷◌, IfOk, Some, codes, false, get_or};
 ghost use Rattle.std.specs.Prelude.{string_bytes};
 ghost use Rattle.std.specs.Option.{option_copied, option_map};
 ghost use Rattle.crash.specs.Modules.{loaded_of};
@@ -31,19 +31,14 @@ pub(crate) fn push_modules(
     ensures { Adds out.old out.new (modules_lines (page_of page.entry) error) result }
 {
     match error {
-        None => push_list(out, page),
+        None => {
+            let threads = page.crash.threads.threads.as_slice();
+            let frames = frames_in(*out.allocator(), page, threads)?;
+            push_count(out, "modules", page.crash.modules.loaded.len())?;
+            push_named(out, page, frames.as_slice())
+        }
         Some(error) => push_if_missing(out, "no modules", error),
     }
-}
-
-// Appends the number of modules, and those that are listed.
-fn push_list(out: &mut String, page: Page<'_, '_, '_, '_>) -> Added
-    ensures { Adds out.old out.new (modules_lines (page_of page.entry) None) result }
-{
-    let threads = page.crash.threads.threads.as_slice();
-    let frames = frames_in(*out.allocator(), page, threads)?;
-    push_count(out, "modules", page.crash.modules.loaded.len())?;
-    push_named(out, page, frames.as_slice())
 }
 
 // Appends the lines of the modules that are listed, by frames.
@@ -88,8 +83,8 @@ fn push_each(
     Ok(())
 }
 
-// Appends the line of the module of an index, if all modules are asked for, or if it has the address of
-// the crash or a mark.
+// Appends the line of the module of an index, if all modules are asked for, or if it has the
+// address of the crash or a mark.
 fn push_at(out: &mut String, page: Page<'_, '_, '_, '_>, marks: &[bool], index: usize) -> Added
     ensures { Adds out.old out.new (module_at (page_of page.entry)
         (is_marked page.entry.crash.now.cause.address marks.now) index) result }
@@ -160,8 +155,8 @@ fn is_in(index: usize, place: Option<(usize, u64)>) -> bool
     }
 }
 
-// Appends the line of a module, with its end if all modules are asked for, and with the words for its
-// symbols.
+// Appends the line of a module, with its end if all modules are asked for, and with the words for
+// its symbols.
 #[rattlefmt::skip]
 #[tactic(auto, unfolding(crate::specs::Modules::module_line))]
 fn push_module(out: &mut String, is_asked: bool, module: &CrashModule, symbols: &str) -> Added
@@ -174,8 +169,9 @@ fn push_module(out: &mut String, is_asked: bool, module: &CrashModule, symbols: 
     let debug = debug_text(alloc, module)?;
     let code = key_text(alloc, ", code ", &module.file, &module.code_id)?;
     push_line(out, &[
-        Words("    "), Hex(module.base), Words(end.as_str()), Words(" "), Words(module.path.as_str()),
-        Words(version.as_str()), Words(debug.as_str()), Words(code.as_str()), Words(symbols),
+        Words("    "), Hex(module.base), Words(end.as_str()), Words(" "),
+        Words(module.path.as_str()), Words(version.as_str()), Words(debug.as_str()),
+        Words(code.as_str()), Words(symbols),
     ])
 }
 

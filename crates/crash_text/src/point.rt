@@ -10,7 +10,7 @@ ghost use Rattle.crash_text.specs.Point.{byte_words, code_lines, code_row, flag_
 ghost use Rattle.crash_text.specs.Point.{instruction_lines, is_ordinary, memory_lines};
 ghost use Rattle.crash_text.specs.Point.{placed_heading, placed_lines, placed_registers};
 ghost use Rattle.crash_text.specs.Point.{point_lines, processor_lines, set_lines, set_words};
-ghost use Rattle.crash_text.specs.Point.{word_line, words_heading, words_lines};
+ghost use Rattle.crash_text.specs.Point.{word_line, words_lines};
 
 use crate::addresses::push_address_line;
 use crate::lines::{Added, push_line};
@@ -216,24 +216,10 @@ fn bytes_words(alloc: Global, bytes: &[u8]) -> Result<String, AllocError>
 fn push_stack_words(out: &mut String, modules: &[CrashModule], words: &[StackWord]) -> Added
     ensures { Adds out.old out.new (words_lines (map loaded_of modules.now) words.now) result }
 {
-    push_words_heading(out, words)?;
-    push_each_word(out, modules, words)
-}
-
-// Appends the heading of words, if there are any.
-fn push_words_heading(out: &mut String, words: &[StackWord]) -> Added
-    ensures { Adds out.old out.new (words_heading words.now) result }
-{
-    match words {
-        [] => Ok(()),
-        _ => push_words(out, "words at the stack pointer"),
+    if words.is_empty() {
+        return Ok(());
     }
-}
-
-// Appends the lines of words.
-fn push_each_word(out: &mut String, modules: &[CrashModule], words: &[StackWord]) -> Added
-    ensures { Adds out.old out.new (map (word_line (map loaded_of modules.now)) words.now) result }
-{
+    push_words(out, "words at the stack pointer")?;
     for word in words {
         push_word(out, modules, word)?;
     }

@@ -1,14 +1,13 @@
 //! The words for what the record of an exception says.
 ghost use Rattle.std.specs.Prelude.{◌≡◌, ◌++◌, IfOk, OnOk, string_bytes};
-ghost use Rattle.std.specs.List.{flat_map};
 ghost use Rattle.std.specs.Option.{option_map};
 ghost use Rattle.crash.specs.Cause.{exception_of};
 ghost use Rattle.crash_text.specs.Records.{access_words, described_text, description_words};
-ghost use Rattle.crash_text.specs.Records.{parameter_words, parameters_words, process_words};
-ghost use Rattle.crash_text.specs.Records.{record_text, record_words, sender_words, unless_zero};
-ghost use Rattle.crash_text.specs.Records.{user_words};
+ghost use Rattle.crash_text.specs.Records.{parameters_words, process_words, record_text};
+ghost use Rattle.crash_text.specs.Records.{record_words, sender_words, unless_zero, user_words};
 
 use crate::lines::Added;
+use crate::words::push_id_text;
 use crash::{Access, CrashException, Sender};
 use minidump::text::Piece::{Decimal, Hex, Words};
 use minidump::text::push_pieces;
@@ -108,14 +107,11 @@ fn push_sender(words: &mut String, sender: Option<Sender>) -> Added
 }
 
 // Appends the process that sent a signal.
-#[rattlefmt::skip]
 fn push_process(words: &mut String, id: Option<u32>) -> Added
     ensures { OnOk result (string_bytes words.new ≡ string_bytes words.old ++ process_words id) }
 {
     match id {
-        Some(id) => push_pieces(words, &[
-            Words(", sent by process "), Decimal(id as u64), Words(" ("), Hex(id as u64), Words(")"),
-        ]),
+        Some(id) => push_id_text(words, ", sent by process ", id),
         None => words.push_str(", sent by an unknown process"),
     }
 }
@@ -138,19 +134,11 @@ fn push_parameters(words: &mut String, parameters: &[u64]) -> Added
     match parameters {
         [first, others @ ..] => {
             push_pieces(words, &[Words(", parameters "), Hex(*first)])?;
-            push_others(words, others)
+            for other in others {
+                push_pieces(words, &[Words(", "), Hex(*other)])?;
+            }
+            Ok(())
         }
         [] => Ok(()),
     }
-}
-
-// Appends the parameters after the first.
-fn push_others(words: &mut String, others: &[u64]) -> Added
-    ensures { OnOk result
-        (string_bytes words.new ≡ string_bytes words.old ++ flat_map parameter_words others.now) }
-{
-    for other in others {
-        push_pieces(words, &[Words(", "), Hex(*other)])?;
-    }
-    Ok(())
 }

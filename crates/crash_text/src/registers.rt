@@ -1,4 +1,4 @@
-ghost use Rattle.std.specs.Prelude.{◌≡◌, [], ◌∷◌, ◌++◌, IfOk, OnOk, map, string_bytes};
+ghost use Rattle.std.specs.Prelude.{◌≡◌, [], ◌∷◌, IfOk, map, string_bytes};
 ghost use Rattle.std.specs.List.{flat_map};
 ghost use Rattle.std.specs.Option.{option_copied, option_map};
 ghost use Rattle.crash.specs.Cause.{exception_of};
@@ -36,7 +36,8 @@ pub(crate) fn push_registers(
     }
 }
 
-// Appends that the context of an exception is no context of the processor, if it isn't and has bytes.
+// Appends that the context of an exception is no context of the processor, if it isn't and has
+// bytes.
 #[rattlefmt::skip]
 #[tactic(auto, unfolding(crate::specs::Registers::unused_lines))]
 fn push_unused(out: &mut String, problem: Option<ContextProblem>) -> Added
@@ -77,7 +78,8 @@ fn push_known(out: &mut String, context: Option<&CrashContext>) -> Added
     }
 }
 
-// Appends the line of whose registers they are, and how much of their context there is, if it is cut.
+// Appends the line of whose registers they are, and how much of their context there is, if it is
+// cut.
 fn push_heading(out: &mut String, origin: ContextOrigin, short: Option<ShortContext>) -> Added
     ensures { Adds out.old out.new (heading_row origin short ∷ []) result }
 {
@@ -135,23 +137,18 @@ fn push_row(out: &mut String, row: &[(&'static str, u64)], size: usize) -> Added
     push_line(out, &[Words("  "), Words(words.as_str())])
 }
 
-// Makes the words for registers.
+// Makes the words for registers: the name of each in three columns, and its value.
+#[rattlefmt::skip]
 fn row_words(alloc: Global, row: &[(&'static str, u64)], size: usize) -> Result<String, AllocError>
     ensures { IfOk result (λ words. string_bytes words ≡ flat_map (register_words size)
         (map (λ r. (r.0.now, r.1)) row.now)) }
 {
     let mut words = String::new(alloc);
+    let digits = 2 * size.min(8);
     for register in row {
-        push_register(&mut words, register.0, register.1, size)?;
+        push_pieces(&mut words, &[
+            Words("  "), Left(3, register.0), Words(" "), Wide(register.1, digits),
+        ])?;
     }
     Ok(words)
-}
-
-// Appends the words for a register: its name in three columns, and its value.
-#[rattlefmt::skip]
-fn push_register(words: &mut String, name: &str, value: u64, size: usize) -> Added
-    ensures { OnOk result (string_bytes words.new
-        ≡ string_bytes words.old ++ register_words size (name.now, value)) }
-{
-    push_pieces(words, &[Words("  "), Left(3, name), Words(" "), Wide(value, 2 * size.min(8))])
 }

@@ -9,7 +9,7 @@ ghost use Rattle.crash_text.specs.Lines.{Adds, if_ok, if_some};
 ghost use Rattle.crash_text.specs.System.{amount_row, boot_lines, date_lines, head_lines};
 ghost use Rattle.crash_text.specs.System.{known_system_lines, number_lines, release_line};
 ghost use Rattle.crash_text.specs.System.{said_lines, system_line, system_lines, system_row};
-ghost use Rattle.crash_text.specs.Words.{id_row, missing_lines};
+ghost use Rattle.crash_text.specs.Words.{id_text, missing_lines};
 
 use crate::lines::{Added, push_line};
 use crate::words::{or_empty, push_id, push_if_missing, push_text, push_text_row, unless_empty};
@@ -154,7 +154,7 @@ fn push_said(out: &mut String, process: &CrashProcess) -> Added
 
 // Appends the line of the id of a process after its words, if it is known.
 fn push_known_id(out: &mut String, what: &str, id: Option<u32>) -> Added
-    ensures { Adds out.old out.new (if_some (λ id. id_row what.now id ∷ []) id) result }
+    ensures { Adds out.old out.new (if_some (λ id. id_text what.now id ∷ []) id) result }
 {
     match id {
         Some(id) => push_id(out, what, id),

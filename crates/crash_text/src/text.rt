@@ -7,8 +7,7 @@ ghost use Rattle.crash.specs.Crash.{crash_in, crash_of};
 ghost use Rattle.crash_symbols.specs.Shown.{symbolized_of};
 ghost use Rattle.crash_text.specs.Escape.{is_printed};
 ghost use Rattle.crash_text.specs.Lines.{Adds};
-ghost use Rattle.crash_text.specs.Page.{page_of};
-ghost use Rattle.crash_text.specs.Text.{first_lines, lines_of, text_of, threads_lines};
+ghost use Rattle.crash_text.specs.Text.{first_lines, text_of};
 
 use crate::damage::push_damage;
 use crate::exceptions::{push_crash, push_none};
@@ -42,10 +41,7 @@ pub fn crash_text(
     let crash = Crash::read(alloc, bytes, names, scan)?;
     let text = text_of(alloc, &crash, limits, None);
     crash.close();
-    match text {
-        Ok(text) => Ok(text),
-        Err(_) => Err(Error::OutOfMemory),
-    }
+    Ok(text?)
 }
 
 /// Makes the text of a crash: by symbols with the backtraces that they give, and without symbols
@@ -64,25 +60,18 @@ pub fn text_of<'l>(
     ensures printed { IfOk result (λ text. list_all is_printed (string_bytes text) ≡ true) }
 {
     let mut text = String::new(alloc);
-    push_lines(
-        &mut text,
-        Page {
-            crash,
-            limits,
-            symbols,
-        },
-    )?;
+    let page = Page {
+        crash,
+        limits,
+        symbols,
+    };
+    push_first(&mut text, crash)?;
+    push_crashed(&mut text, page)?;
+    push_messages(&mut text, &crash.contents.messages)?;
+    push_others(&mut text, page, crash.threads.threads.as_slice())?;
+    push_modules(&mut text, page, crash.contents.space.modules_error)?;
+    push_lists(&mut text, page)?;
     Ok(text)
-}
-
-// Appends the lines of a crash.
-fn push_lines(out: &mut String, page: Page<'_, '_, '_, '_>) -> Added
-    ensures { Adds out.old out.new (lines_of (page_of page.entry)) result }
-{
-    push_first(out, page.crash)?;
-    push_threads(out, page)?;
-    push_modules(out, page, page.crash.contents.space.modules_error)?;
-    push_lists(out, page)
 }
 
 // Appends that nothing crashed, the system, the process, the crash, and what can't be read.
@@ -93,13 +82,4 @@ fn push_first(out: &mut String, crash: &Crash<'_>) -> Added
     push_head(out, crash)?;
     push_crash(out, crash)?;
     push_damage(out, crash)
-}
-
-// Appends the thread that crashed, what the process said, and the other threads.
-fn push_threads(out: &mut String, page: Page<'_, '_, '_, '_>) -> Added
-    ensures { Adds out.old out.new (threads_lines (page_of page.entry)) result }
-{
-    push_crashed(out, page)?;
-    push_messages(out, &page.crash.contents.messages)?;
-    push_others(out, page, page.crash.threads.threads.as_slice())
 }

@@ -1,27 +1,26 @@
 ghost use Rattle.std.specs.Prelude.{◌≡◌, [], ◌∷◌, ◌++◌, IfOk, OnOk, codes, if◌then◌else◌, map};
-ghost use Rattle.std.specs.Prelude.{string_bytes};
 ghost use Rattle.std.specs.Option.{option_map};
-ghost use Rattle.crash.specs.Contexts.{context_of};
 ghost use Rattle.crash.specs.Process.{system_of};
 ghost use Rattle.crash.specs.Threads.{thread_value};
-ghost use Rattle.crash_symbols.specs.Shown.{shown_of};
 ghost use Rattle.crash_text.specs.Lines.{Adds, if_some};
 ghost use Rattle.crash_text.specs.Page.{page_of};
-ghost use Rattle.crash_text.specs.Threads.{crashed_lines, each_other, found_lines, frames_at};
+ghost use Rattle.crash_text.specs.Threads.{crashed_lines, each_other, frames_at};
 ghost use Rattle.crash_text.specs.Threads.{frames_in, is_index, is_range, memory_lines};
-ghost use Rattle.crash_text.specs.Threads.{no_walk_row, other_lines, own_lines, range_row, remark};
+ghost use Rattle.crash_text.specs.Threads.{no_walk_row, other_lines, own_lines, range_row};
 ghost use Rattle.crash_text.specs.Threads.{short_lines, shows_all, stack_lines, thread_lines};
-ghost use Rattle.crash_text.specs.Threads.{thread_row, walked_lines};
+ghost use Rattle.crash_text.specs.Threads.{thread_row};
 
 use crate::frames::{push_frames_of, push_walk};
 use crate::limits::TextLimits;
 use crate::lines::{Added, push_line};
 use crate::page::Page;
 use crate::registers::push_short;
-use crate::words::{or_empty, push_if_missing, push_text, push_words, where_some};
-use crash::{ContextProblem, CrashContext, CrashFrame, CrashSystem, CrashThread, StackRange};
-use crash_symbols::{ShownWalk, shown_walk};
-use minidump::text::Piece::{Decimal, Hex, Words};
+use crate::words::{
+    id_text, or_empty, push_if_missing, push_text, push_words, where_some, words_if,
+};
+use crash::{ContextProblem, CrashFrame, CrashSystem, CrashThread, StackRange};
+use crash_symbols::shown_walk;
+use minidump::text::Piece::{Hex, Words};
 use std::alloc::{AllocError, Global};
 
 // Appends the lines of the thread that crashed, or that there are no threads.
@@ -98,67 +97,48 @@ fn push_thread(
     ensures { Adds out.old out.new
         (thread_lines (page_of page.entry) is_whole number (thread_value thread.now)) result }
 {
-    let walk = shown_walk(*out.allocator(), thread, number, page.symbols)?;
-    push_walked(out, page, is_whole, thread, &walk)
-}
-
-// Appends the lines of a thread by what is found in its stack.
-fn push_walked(
-    out: &mut String,
-    page: Page<'_, '_, '_, '_>,
-    is_whole: bool,
-    thread: &CrashThread,
-    walk: &Option<ShownWalk<'_, '_>>,
-) -> Added
-    ensures { Adds out.old out.new (walked_lines (page_of page.entry) is_whole
-        (thread_value thread.now) (option_map shown_of walk.now)) result }
-{
-    push_row(out, thread.id, &thread.name, remark(thread.is_listed))?;
+    push_row(out, thread)?;
     push_text(out, "    last error ", &thread.last_error)?;
-    push_if_short(out, &thread.context)?;
+    push_if_short(out, thread)?;
     push_stack_if(out, is_whole, thread)?;
-    push_found(out, page, is_whole, thread, walk)
-}
-
-// Returns the remark at a thread that the list of threads lacks.
-fn remark(is_listed: bool) -> &'static str
-    ensures { result.now ≡ remark is_listed }
-{
-    if is_listed {
-        ""
-    } else {
-        ", not in the list of threads"
+    match shown_walk(*out.allocator(), thread, number, page.symbols)? {
+        Some(walk) => {
+            push_own(out, thread.context_problem)?;
+            push_walk(out, page, is_whole, &walk)
+        }
+        None => push_words(
+            out,
+            no_walk_row(&page.crash.process.system, thread.context_problem),
+        ),
     }
 }
 
 #[rattlefmt::skip]
 #[tactic(auto, unfolding(crate::specs::Threads::thread_row))]
-fn push_row<'x>(out: &mut String, id: u32, name: &'x Option<String>, words: &'x str) -> Added
-    ensures { Adds out.old out.new
-        (thread_row id (option_map string_bytes name.now) words.now ∷ []) result }
+fn push_row(out: &mut String, thread: &CrashThread) -> Added
+    ensures { Adds out.old out.new (thread_row (thread_value thread.now) ∷ []) result }
 {
+    let id = id_text(*out.allocator(), "thread ", thread.id)?;
+    let name = &thread.name;
     push_line(out, &[
-        Words("thread "), Decimal(id as u64), Words(" ("), Hex(id as u64), Words(")"),
-        Words(where_some(" \"", name)), Words(or_empty(name)), Words(where_some("\"", name)),
-        Words(words),
+        Words(id.as_str()), Words(where_some(" \"", name)), Words(or_empty(name)),
+        Words(where_some("\"", name)),
+        Words(words_if(!thread.is_listed, ", not in the list of threads")),
     ])
 }
 
 // Appends how much there is of the context of a thread's registers, if that is cut.
-fn push_if_short(out: &mut String, context: &Option<CrashContext>) -> Added
-    ensures { Adds out.old out.new
-        (if_some short_lines (option_map context_of context.now)) result }
+fn push_if_short(out: &mut String, thread: &CrashThread) -> Added
+    ensures { Adds out.old out.new (short_lines (thread_value thread.now)) result }
 {
-    match context {
-        Some(context) => match context.short {
-            Some(short) => push_short(out, "    ", "", short),
-            None => Ok(()),
-        },
+    match thread.short_context() {
+        Some(short) => push_short(out, "    ", "", short),
         None => Ok(()),
     }
 }
 
-// Appends the lines of the stack of a thread, and of its memory, if all of its frames are asked for.
+// Appends the lines of the stack of a thread, and of its memory, if all of its frames are asked
+// for.
 fn push_stack_if(out: &mut String, is_whole: bool, thread: &CrashThread) -> Added
     ensures { Adds out.old out.new
         (if is_whole then stack_lines (thread_value thread.now) else []) result }
@@ -212,29 +192,6 @@ fn push_range(out: &mut String, what: &str, range: &StackRange) -> Added
         Words("    "), Words(what), Words(" "), Hex(range.base), Words(", "), Hex(range.size),
         Words(" bytes"),
     ])
-}
-
-// Appends what is found in the stack of a thread, or why nothing is.
-fn push_found(
-    out: &mut String,
-    page: Page<'_, '_, '_, '_>,
-    is_whole: bool,
-    thread: &CrashThread,
-    walk: &Option<ShownWalk<'_, '_>>,
-) -> Added
-    ensures { Adds out.old out.new (found_lines (page_of page.entry) is_whole
-        (thread_value thread.now) (option_map shown_of walk.now)) result }
-{
-    match walk {
-        Some(walk) => {
-            push_own(out, thread.context_problem)?;
-            push_walk(out, page, is_whole, walk)
-        }
-        None => {
-            let row = no_walk_row(&page.crash.process.system, thread.context_problem);
-            push_words(out, row)
-        }
-    }
 }
 
 // Appends why the own context of a thread isn't used, whose frames are those of the exception's.

@@ -1,16 +1,16 @@
 //! Words of lines.
-ghost use Rattle.std.specs.Prelude.{◌≡◌, [], ◌∷◌, IfOk, map, string_bytes};
+ghost use Rattle.std.specs.Prelude.{◌≡◌, ◌++◌, [], ◌∷◌, IfOk, OnOk, map, string_bytes};
 ghost use Rattle.std.specs.Option.{option_map};
 ghost use Rattle.crash.specs.Modules.{loaded_of};
 ghost use Rattle.crash_text.specs.Lines.{Adds};
-ghost use Rattle.crash_text.specs.Words.{count_row, id_row, if_missing, or_empty, place_text};
-ghost use Rattle.crash_text.specs.Words.{text_lines, text_row, unless_empty, where_some};
+ghost use Rattle.crash_text.specs.Words.{count_row, id_text, if_missing, or_empty, place_text};
+ghost use Rattle.crash_text.specs.Words.{text_lines, text_row, unless_empty, where_some, words_if};
 
 use crate::lines::{Added, push_line};
 use crash::{CrashModule, is_missing};
 use minidump::Error;
 use minidump::text::Piece::{Decimal, Hex, Words};
-use minidump::text::format_pieces;
+use minidump::text::{format_pieces, push_pieces};
 use std::alloc::{AllocError, Global};
 
 // Returns a text, or an empty one if there is none.
@@ -21,6 +21,13 @@ pub(crate) fn or_empty(text: &Option<String>) -> &str
         Some(text) => text.as_str(),
         None => "",
     }
+}
+
+// Returns words if something is so, or else none.
+pub(crate) fn words_if(is_so: bool, words: &'static str) -> &'static str
+    ensures { result.now ≡ words_if is_so words.now }
+{
+    if is_so { words } else { "" }
 }
 
 // Returns words, or none if the text after them is empty.
@@ -62,15 +69,32 @@ pub(crate) fn push_text_row<'t>(out: &mut String, words: &'t str, text: &'t str)
     push_line(out, &[Words(words), Words(text)])
 }
 
-// Appends the line of the id of a process or a thread after its words.
+// Appends the id of a process or a thread after its words.
 #[rattlefmt::skip]
-#[tactic(auto, unfolding(crate::specs::Words::id_row))]
-pub(crate) fn push_id(out: &mut String, words: &str, id: u32) -> Added
-    ensures { Adds out.old out.new (id_row words.now id ∷ []) result }
+#[tactic(auto, unfolding(crate::specs::Words::id_text))]
+pub(crate) fn push_id_text(text: &mut String, words: &str, id: u32) -> Added
+    ensures { OnOk result (string_bytes text.new ≡ string_bytes text.old ++ id_text words.now id) }
 {
-    push_line(out, &[
+    push_pieces(text, &[
         Words(words), Decimal(id as u64), Words(" ("), Hex(id as u64), Words(")"),
     ])
+}
+
+// Makes the same words alone.
+pub(crate) fn id_text(alloc: Global, words: &str, id: u32) -> Result<String, AllocError>
+    ensures { IfOk result (λ text. string_bytes text ≡ id_text words.now id) }
+{
+    let mut text = String::new(alloc);
+    push_id_text(&mut text, words, id)?;
+    Ok(text)
+}
+
+// Appends the line of these words.
+pub(crate) fn push_id(out: &mut String, words: &str, id: u32) -> Added
+    ensures { Adds out.old out.new (id_text words.now id ∷ []) result }
+{
+    let text = id_text(*out.allocator(), words, id)?;
+    push_words(out, text.as_str())
 }
 
 // Appends the line of the number of something.

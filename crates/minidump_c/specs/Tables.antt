@@ -1,9 +1,8 @@
 -- The registers, the threads, the modules and the unloaded modules of a crash, as rows.
-use Rattle.std.specs.Prelude.{ℕ, ◌++◌, List, length, Option, unwrap_or}
-use Rattle.std.specs.Option.{option_and_then, option_map_or}
+use Rattle.std.specs.Prelude.{ℕ, ◌++◌, List, length, unwrap_or}
+use Rattle.std.specs.Option.{option_map_or}
 use Rattle.crash.specs.Modules.{LoadedValue, UnloadedModuleValue}
-use Rattle.crash.specs.Threads.{ThreadValue}
-use Rattle.crash.specs.declared.contexts.ShortContext.{ShortContext}
+use Rattle.crash.specs.Threads.{ThreadValue, short_context}
 use Rattle.minidump_c.specs.declared.tables.ModuleRow.{ModuleRow}
 use Rattle.minidump_c.specs.declared.tables.RegisterRow.{RegisterRow}
 use Rattle.minidump_c.specs.declared.tables.ThreadRow.{ThreadRow}
@@ -17,10 +16,6 @@ register_row before r = record { value = r.1; name = span_after before r.0 }
 abbrev pub with_register : List ℕ → List ℕ × ℕ → List ℕ
 with_register before r = before ++ r.0
 
--- how much there is of a thread's context, if it is cut
-abbrev pub short_of : ThreadValue → Option ShortContext
-short_of t = option_and_then (λ x. x.short) t.context
-
 -- a thread: 0 for the stack of one without a stack, for the frames of one without a walk, and for the
 -- sizes of a context that is whole
 abbrev pub thread_row : List ℕ → ThreadValue → ThreadRow
@@ -30,8 +25,8 @@ thread_row before t = record {
   name = span_after before (text_in t.name);
   last_error = span_after (before ++ text_in t.name) (text_in t.last_error);
   frame_count = option_map_or (λ w. length w.frames) t.walk 0;
-  short_size = option_map_or (λ s. s.size) (short_of t) 0;
-  whole_size = option_map_or (λ s. s.whole) (short_of t) 0;
+  short_size = option_map_or (λ s. s.size) (short_context t) 0;
+  whole_size = option_map_or (λ s. s.whole) (short_context t) 0;
   id = t.id;
   has_context = flag t.context;
   is_listed = bit t.is_listed;

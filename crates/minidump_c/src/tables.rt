@@ -1,12 +1,9 @@
 ghost use Rattle.std.specs.Prelude.{◌≡◌, length};
-ghost use Rattle.std.specs.Option.{option_and_then, option_map, option_map_or};
-ghost use Rattle.crash.specs.Contexts.{context_of};
+ghost use Rattle.std.specs.Option.{option_map, option_map_or};
 ghost use Rattle.crash.specs.Frames.{crash_walk_of};
 
 use crate::spans::{MakeRow, Span, bit, bytes_of, flag, push_text};
-use crash::{
-    CrashContext, CrashModule, CrashThread, CrashWalk, ShortContext, StackRange, UnloadedModule,
-};
+use crash::{CrashModule, CrashThread, CrashWalk, ShortContext, StackRange, UnloadedModule};
 use std::alloc::AllocError;
 
 /// A register: its value, and its name.
@@ -120,7 +117,7 @@ impl MakeRow for CrashThread {
         let name = push_text(texts, bytes_of(&self.name))?;
         let last_error = push_text(texts, bytes_of(&self.last_error))?;
         let (stack_base, stack_size) = range_of(self.stack);
-        let (short_size, whole_size) = short_sizes(short_of(&self.context));
+        let (short_size, whole_size) = short_sizes(self.short_context());
         Ok(ThreadRow {
             stack_base,
             stack_size,
@@ -155,13 +152,6 @@ fn frame_count(walk: &Option<CrashWalk>) -> usize
         Some(walk) => walk.frames.len(),
         None => 0,
     }
-}
-
-// Returns how much there is of a context, if it is cut.
-fn short_of(context: &Option<CrashContext>) -> Option<ShortContext>
-    ensures { result ≡ option_and_then (λ x. x.short) (option_map context_of context.now) }
-{
-    context.as_ref()?.short
 }
 
 // Returns how many bytes a context has, and how many a whole one has, if it is cut.

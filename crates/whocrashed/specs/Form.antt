@@ -19,17 +19,13 @@ json_limits limits = record { frames = limits.frames; environment = limits.envir
 
 -- ---- a crash, with symbols where they are known
 
--- its lines of text
-unfoldable pub lines_in : TextLimits → Option SymbolizedValue → CrashValue → List ℕ
-lines_in limits symbols c = text.text_of limits symbols c
-
 -- its JSON, with the path of its file
 unfoldable pub json_in : TextLimits → List ℕ → Option SymbolizedValue → CrashValue → List ℕ
 json_in limits path symbols c = json.text_of (json_limits limits) (Some path) symbols c
 
--- what is printed of it: its lines, its JSON as a line, or the page with its JSON
+-- what is printed of it: its lines of text, its JSON as a line, or the page with its JSON
 unfoldable pub form_in : Form → TextLimits → List ℕ → Option SymbolizedValue → CrashValue → List ℕ
-form_in Lines limits path symbols c = lines_in limits symbols c
+form_in Lines limits path symbols c = text.text_of limits symbols c
 form_in Json limits path symbols c = json_in limits path symbols c ++ 0x0a ∷ []
 form_in Html limits path symbols c = page_with (json_in limits path symbols c)
 

@@ -6,7 +6,7 @@ ghost use Rattle.crash_html.specs.Page.{page_with};
 ghost use Rattle.crash_symbols.specs.Backtraces.{backtraces_in, backtraces_of};
 ghost use Rattle.crash_symbols.specs.Shown.{symbolized_of};
 ghost use Rattle.crash_symbols.specs.Symbols.{known_of};
-ghost use Rattle.whocrashed.specs.Form.{IsByFiles, form_in, json_in, lines_in, shown_with};
+ghost use Rattle.whocrashed.specs.Form.{IsByFiles, form_in, json_in, shown_with};
 ghost use Rattle.whocrashed.specs.Symbols.{has_dirs};
 
 use crate::options::Form;
@@ -115,26 +115,13 @@ impl Reporter<'_, '_> {
             (option_map symbolized_of (option_copied symbols.entry)) (crash_of crash.now)) }
     {
         match self.form {
-            Form::Lines => Ok(self.lines_by(crash, symbols)?),
+            Form::Lines => Ok(text_of(self.rt.alloc(), crash, &self.limits, symbols)?.into_bytes()),
             Form::Json => Ok(end_line(self.json_by(path, crash, symbols)?)?),
             Form::Html => {
                 let json = self.json_by(path, crash, symbols)?;
                 Ok(page_of(self.rt.alloc(), &json)?)
             }
         }
-    }
-
-    // Makes the lines of text of a crash by these symbols.
-    #[tactic(auto, unfolding(crate::specs::Form::lines_in))]
-    fn lines_by(
-        &self,
-        crash: &Crash<'_>,
-        symbols: Option<&Symbolized<'_, '_>>,
-    ) -> Result<Vec<u8>, AllocError>
-        ensures { IfOk result (λ lines. lines.items ≡ lines_in self.now.limits
-            (option_map symbolized_of (option_copied symbols.entry)) (crash_of crash.now)) }
-    {
-        Ok(text_of(self.rt.alloc(), crash, &self.limits, symbols)?.into_bytes())
     }
 
     // Makes the JSON of a crash by these symbols.

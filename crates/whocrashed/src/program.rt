@@ -72,30 +72,21 @@ fn answer(rt: &HostRuntime, error: &Error) -> io::Result<u8>
 fn obey(rt: &HostRuntime, options: &Options<'_>) -> io::Result<u8>
     ensures { IfOk result (λ status. status < 2) }
 {
-    match names_text(rt, options)? {
-        Some(text) => report_all(rt, options, text.as_bytes()),
-        None => Ok(1),
-    }
-}
-
-// Reports on the dumps with the names of a text.
-fn report_all(rt: &HostRuntime, options: &Options<'_>, text: &[u8]) -> io::Result<u8>
-    ensures { IfOk result (λ status. status < 2) }
-{
-    let table = match NameTable::read(rt.alloc(), text) {
-        Ok(table) => table,
-        Err(error) => {
-            complain(
-                rt,
-                "names of codes",
-                format!(in rt.alloc(); "{error}")?.as_str(),
-            )?;
-            return Ok(1);
-        }
+    let Some(text) = names_text(rt, options)? else {
+        return Ok(1);
     };
-    let lists = table.lists(rt.alloc())?;
-    let names = lists.code_names();
-    report_dumps(&reporter_of(rt, options, &names), options)
+    match NameTable::read(rt.alloc(), text.as_bytes()) {
+        Ok(table) => {
+            let lists = table.lists(rt.alloc())?;
+            let names = lists.code_names();
+            report_dumps(&reporter_of(rt, options, &names), options)
+        }
+        Err(error) => {
+            let words = format!(in rt.alloc(); "{error}")?;
+            complain(rt, "names of codes", words.as_str())?;
+            Ok(1)
+        }
+    }
 }
 
 // Returns what prints reports as the options say, with these names.
@@ -128,16 +119,29 @@ fn reporter_of<'l, 'n>(
 fn report_dumps(reporter: &Reporter<'_, '_>, options: &Options<'_>) -> io::Result<u8>
     ensures { IfOk result (λ status. status < 2) }
 {
-    if !options.are_listed {
-        return report_listed(reporter, options, &[]);
-    }
-    match read_list(reporter)? {
-        Some(list) => report_listed(reporter, options, &list),
-        None => {
-            report_listed(reporter, options, &[])?;
-            Ok(1)
-        }
-    }
+    let alloc = reporter.rt.alloc();
+    let list = if options.are_listed {
+        read_list(reporter)?
+    } else {
+        Some(Vec::new(alloc))
+    };
+    let dumps = dumps_in(
+        alloc,
+        options.dumps.as_slice(),
+        list.as_deref().unwrap_or(&[]),
+    )?;
+    let mut cache = SymbolCache::new(
+        reporter.rt,
+        options.symbols.as_slice(),
+        options.symbols_limit,
+    );
+    let status = report_each(
+        reporter,
+        dumps.as_slice(),
+        &mut cache,
+        options.shows_progress,
+    )?;
+    Ok(if list.is_some() { status } else { 1 })
 }
 
 // Reads the list of paths on standard input. Returns `None` if it can't be read, which it says.
@@ -149,24 +153,6 @@ fn read_list(reporter: &Reporter<'_, '_>) -> io::Result<Option<Vec<u8>>> {
         Err(error) => complain_of(reporter.rt, name, &error)?,
     }
     Ok(None)
-}
-
-// Reports on the dumps of the arguments, and on those of a list.
-fn report_listed(reporter: &Reporter<'_, '_>, options: &Options<'_>, list: &[u8]) -> io::Result<u8>
-    ensures { IfOk result (λ status. status < 2) }
-{
-    let dumps = dumps_in(reporter.rt.alloc(), options.dumps.as_slice(), list)?;
-    let mut cache = SymbolCache::new(
-        reporter.rt,
-        options.symbols.as_slice(),
-        options.symbols_limit,
-    );
-    report_each(
-        reporter,
-        dumps.as_slice(),
-        &mut cache,
-        options.shows_progress,
-    )
 }
 
 // Reports on each dump, and returns the greatest of their statuses. A closed pipe ends the run: then

@@ -1,9 +1,9 @@
 -- The numbers and the texts of the record.
-use Rattle.crash_json.specs.Records.{mac_object}
+use Rattle.crash_json.specs.Records.{mac_record_json}
 use Rattle.crash_json.proofs.records.RawMacCrashInfoToJson.put.Goals as goal
 
 pub returns : goal.returns
-unfolding mac_object
+unfolding mac_record_json
 returns c = rw (
   c.copied.ensures,
   c.copied-2.ensures,

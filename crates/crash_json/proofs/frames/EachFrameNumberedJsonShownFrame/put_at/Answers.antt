@@ -1,0 +1,12 @@
+-- The members of the place, and then the names.
+use Rattle.std.proofs.Common.{rules}
+use Rattle.crash_json.proofs.Tokens.{in_object, more}
+use Rattle.crash_json.proofs.frames.EachFrameNumberedJsonShownFrame.put_at.Goals as goal
+
+pub returns : goal.returns
+returns c = record {
+  tokens = in_object _ _ _ _ _ c.in_ok-begin_object.ensures.ok
+      (more _ _ _ _ _ c.in_ok-put_place.ensures.tokens c.in_ok-put_names.ensures.tokens) c.in_ok-end_object.ensures.ok;
+  before = search rules;
+  memory = search rules;
+}

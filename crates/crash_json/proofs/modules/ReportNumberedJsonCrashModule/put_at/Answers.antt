@@ -1,0 +1,12 @@
+-- The members of the module, and then what is known of its symbols.
+use Rattle.std.proofs.Common.{rules}
+use Rattle.crash_json.proofs.Tokens.{in_object, more}
+use Rattle.crash_json.proofs.modules.ReportNumberedJsonCrashModule.put_at.Goals as goal
+
+pub returns : goal.returns
+returns c = record {
+  tokens = in_object _ _ _ _ _ c.in_ok-begin_object.ensures.ok
+      (more _ _ _ _ _ c.in_ok-put_module.ensures.tokens c.in_ok-put_symbols.ensures.tokens) c.in_ok-end_object.ensures.ok;
+  before = search rules;
+  memory = search rules;
+}

@@ -1,0 +1,12 @@
+-- The name, and then the members of the address.
+use Rattle.std.proofs.Common.{rules}
+use Rattle.crash_json.proofs.Tokens.{in_object, more}
+use Rattle.crash_json.proofs.point.Tuple2RefStrAddressFactsToJson.put.Goals as goal
+
+pub returns : goal.returns
+returns c = record {
+  tokens = in_object _ _ _ _ _ c.in_ok-begin_object.ensures.ok
+      (more _ _ _ _ _ c.in_ok-add.ensures.tokens c.in_ok-put_address.ensures.tokens) c.in_ok-end_object.ensures.ok;
+  before = search rules;
+  memory = search rules;
+}
