@@ -13,7 +13,8 @@ use Rattle.minidump_bytes.specs.LinuxOsStr.{before_suffix, words_of}
 use Rattle.breakpad_symbols.specs.declared.inline.InlineCall.{InlineCall}
 use Rattle.breakpad_symbols.specs.declared.line_record.LineRecord.{LineRecord}
 use Rattle.breakpad_symbols.specs.Cfi.{CfiValue, change_at, change_line, changed_rule, if_reached, is_label, labels, rule_among, rule_at, rule_in}
-use Rattle.breakpad_symbols.specs.Choice.{AreBefore, BeginsWithEnd, ChangesRule, FirstSays, HaveRule, IsCallOf, IsInlineIn, IsLineIn, IsLineOf, IsRuleAt, LastSays, NoneSays}
+use Rattle.breakpad_symbols.specs.Choice.{AreBefore, BeginsWithEnd, ChangesRule, FirstSays, HaveRule, IsCallOf, IsInlineIn, IsLineIn, IsLineOf, IsRuleAt}
+use Rattle.breakpad_symbols.specs.Choice.{LastSays, NoneSays}
 use Rattle.breakpad_symbols.specs.Function.{FunctionValue, line_in}
 use Rattle.breakpad_symbols.specs.Grammar.{IsInlineLine}
 use Rattle.breakpad_symbols.specs.Inline.{any_covers, call_at, if_covering, if_depth, inline_in, inline_line, inline_with}

@@ -3,7 +3,8 @@ use Rattle.std.proofs.Common.{◌≡◌, ◌∙◌, ℕ, ◌+◌, Bool, true, fa
 use Rattle.std.proofs.Common.{ap, map, refl, subst, sym}
 use Rattle.std.specs.BTreeSet.{BTreeSet, IsFromIterResult}
 use Rattle.std.specs.Cmp.{IsTotalOrder, Equal-is, nat_cmp_total, on_total, then_total}
-use Rattle.std.specs.FinMap.{FinMap, IsAntisymmetric, entries-from_sorted, find, from_entries, from_sorted, get-from_entries, get-from_sorted, is_sorted, nat_cmp-IsAntisymmetric, same_map, values}
+use Rattle.std.specs.FinMap.{FinMap, IsAntisymmetric, entries-from_sorted, find, from_entries, from_sorted, get-from_entries, get-from_sorted, is_sorted}
+use Rattle.std.specs.FinMap.{nat_cmp-IsAntisymmetric, same_map, values}
 use Rattle.std.specs.FinMap.Entries.{below_all}
 use Rattle.std.specs.List.{AllByRecursion, enumerate_from, list_any}
 use Rattle.std.specs.List.Sorted.{IsStrictlySortedBy}

@@ -1,6 +1,7 @@
 -- What the record of an exception says: the parameters, LLDB's text over them, and by its system
 -- how memory was accessed, and who sent a signal.
-use Rattle.std.specs.Prelude.{ℕ, codes, false, true, ◌%◌, ◌/◌, ◌^◌, ◌==◌, ◌||◌, ◌&&◌, nat_le, nat_lt, not, Bool, List, min}
+use Rattle.std.specs.Prelude.{ℕ, codes, false, true, ◌%◌, ◌/◌, ◌^◌, ◌==◌, ◌||◌, ◌&&◌, nat_le, nat_lt, not, Bool, List}
+use Rattle.std.specs.Prelude.{min}
 use Rattle.std.specs.Prelude.{slice_index, take, length, Option, Some, None, if◌then◌else◌}
 use Rattle.std.specs.Int.{to_le_bytes, w64}
 use Rattle.std.specs.List.{before_first, flat_map}
@@ -102,8 +103,8 @@ sender_of_parameters code parameters = record {
 abbrev is_poll_or_sys : ℕ → Bool
 is_poll_or_sys signal = signal == 29 || signal == 31
 
--- the first parameter has both ids: the first field of these signals, where it has 64 bits. Where it has
--- 32, the second field lies where `si_uid` does
+-- the first parameter has both ids: it is the first field of these signals, as long as an address. Where
+-- that is 32 bits, the second parameter is the field at the place of `si_uid`
 abbrev pub has_both_ids : PointerWidth → ℕ → Bool
 has_both_ids Bits32 signal = false
 has_both_ids _ signal = is_poll_or_sys signal

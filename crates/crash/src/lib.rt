@@ -39,7 +39,9 @@
 //! The crash is the one that the definition `crash_in` assigns to the bytes and to the names of
 //! codes, and so is each error, but for `OutOfMemory`: [`Crash::read`]. The status is that of the
 //! definition of its name: [`status_of`]. That the entry of the exception has the error of its
-//! stream, though all exceptions are read at once, is a law of the definitions: [`laws`].
+//! stream, though all exceptions are read at once, is a law of the definitions: [`laws`]. So are the
+//! answers of the calls on parts of a crash, each by the definition that its contract names, as
+//! [`annotation_text`], [`regions_of`] and [`CrashThread::short_context`].
 #![tactic(auto)]
 
 mod addresses;

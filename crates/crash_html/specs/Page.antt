@@ -1,6 +1,7 @@
 -- A page with a JSON text as data of a script element (HTML, "script data state"; RFC 8259, section
 -- 7).
-use Rattle.std.specs.Prelude.{ℕ, Bool, not, ◌||◌, ◌==◌, List, [], ◌∷◌, ◌++◌, chars, codes, encode_utf8_all, if◌then◌else◌}
+use Rattle.std.specs.Prelude.{ℕ, Bool, not, ◌||◌, ◌==◌, List, [], ◌∷◌, ◌++◌, chars, codes, encode_utf8_all}
+use Rattle.std.specs.Prelude.{if◌then◌else◌}
 use Rattle.std.specs.List.{flat_map}
 use Rattle.crash_html.specs.declared.head.TheConstants.{HEAD}
 use Rattle.crash_html.specs.declared.tail.TheConstants.{TAIL}

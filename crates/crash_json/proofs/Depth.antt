@@ -48,11 +48,14 @@ use Rattle.crash_symbols.specs.Shown.{SymbolizedValue, shown_in}
 use Rattle.crash_json.specs.Tree.{array_of, count, hex_string, members_of, numbered_array_of}
 use Rattle.crash_json.proofs.TreeDepth.{array_within, flat_count, flat_hex, flat_text, numbered_array_within, or_null_within}
 use Rattle.crash_json.specs.declared.JsonLimits.{JsonLimits}
-use Rattle.crash_json.specs.Cause.{access_name, address_json, address_members, crash_info_json, crash_object, exception_json, memory_json, problem_name, read_json, sender_json, unread_json}
+use Rattle.crash_json.specs.Cause.{access_name, address_json, address_members, crash_info_json, crash_object, exception_json, memory_json, problem_name}
+use Rattle.crash_json.specs.Cause.{read_json, sender_json, unread_json}
 use Rattle.crash_json.specs.Crashpad.{annotation_json, annotations_json, crashpad_json, crashpad_module_json, crashpad_object, objects_json, texts_json}
-use Rattle.crash_json.specs.Frames.{file_at, frame_json, inline_json, inline_object, name_members, name_object, of_first, place_members, register_members, registers_json}
+use Rattle.crash_json.specs.Frames.{file_at, frame_json, inline_json, inline_object, name_members, name_object, of_first, place_members, register_members}
+use Rattle.crash_json.specs.Frames.{registers_json}
 use Rattle.crash_json.specs.Linux.{environment_json, limit_json, limits_json, proc_limits_json, variable_json, variables_json}
-use Rattle.crash_json.specs.Minidump.{damage_json, damage_object, file_members, minidump_json, process_members, region_json, signed_members, stream_json, unless_zero}
+use Rattle.crash_json.specs.Minidump.{damage_json, damage_object, file_members, minidump_json, process_members, region_json, signed_members, stream_json}
+use Rattle.crash_json.specs.Minidump.{unless_zero}
 use Rattle.crash_json.specs.Modules.{main_module, module_json, module_members, modules_json, state_object, symbol_members, unloaded_json, unreadable_json}
 use Rattle.crash_json.specs.Point.{flags_json, placed_json, point_json, register_json, word_json}
 use Rattle.crash_json.specs.Records.{assertion_json, assertion_object, handle_json, handles_json, kind_json, mac_crash_json, mac_record_json}
@@ -61,7 +64,8 @@ use Rattle.crash_json.specs.Report.{crash_members, error_json, json_of, line_jso
 use Rattle.crash_json.specs.Signature.{signature_in}
 use Rattle.crash_json.specs.SoftErrors.{soft_depth, soft_json}
 use Rattle.crash_json.specs.System.{release_json, system_json, system_object}
-use Rattle.crash_json.specs.Threads.{crashing_json, end_name, frames_in, index_members, range_json, registers_of, short_json, shown_context, thread_json, thread_members, threads_json}
+use Rattle.crash_json.specs.Threads.{crashing_json, end_name, frames_in, index_members, range_json, registers_of, short_json, shown_context, thread_json}
+use Rattle.crash_json.specs.Threads.{thread_members, threads_json}
 
 -- ---- members
 

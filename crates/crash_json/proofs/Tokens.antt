@@ -4,7 +4,8 @@ use Rattle.std.specs.Option.{option_map}
 use Rattle.std.specs.Result.{result_ok}
 use Rattle.std.proofs.lemmas.List.{drop_all}
 use Rattle.std.proofs.lemmas.Simd.{map-map}
-use Rattle.std.proofs.Common.{◌<◌, ◌+◌, suc, length, get_or, drop, add-one, drop-cons, ◌≡◌, ◌∙◌, ◌≤◌, ℕ, List, [], ◌∷◌, ◌++◌, Option, Some, None, Result, Ok, Err, map, option_and_then, refl, ap, sym, append_assoc, append-nil}
+use Rattle.std.proofs.Common.{◌<◌, ◌+◌, suc, length, get_or, drop, add-one, drop-cons, ◌≡◌, ◌∙◌, ◌≤◌, ℕ, List, [], ◌∷◌, ◌++◌, Option, Some, None, Result, Ok}
+use Rattle.std.proofs.Common.{Err, map, option_and_then, refl, ap, sym, append_assoc, append-nil}
 use Rattle.json.specs.Token.{Token, begin_object, end_object, begin_array, end_array}
 use Rattle.json.specs.Json.{Json, document, if_last, max_depth, value}
 use Rattle.json.specs.Lex.{tokens}

@@ -1,5 +1,6 @@
 -- Loops that find the calls put in place at an offset, and that name them.
-use Rattle.std.proofs.Common.{◌≡◌, ◌∙◌, ℕ, ◌+◌, ◌-◌, ◌<◌, ◌≤◌, ◌++◌, ◌∷◌, [], List, Option, Some, None, ap, arith, append-nil, append_assoc, map, refl, reverse, suc, sym}
+use Rattle.std.proofs.Common.{◌≡◌, ◌∙◌, ℕ, ◌+◌, ◌-◌, ◌<◌, ◌≤◌, ◌++◌, ◌∷◌, [], List, Option, Some, None, ap, arith, append-nil, append_assoc, map, refl, reverse}
+use Rattle.std.proofs.Common.{suc, sym}
 use Rattle.std.specs.List.{range_with_len}
 use Rattle.std.specs.Borrow.{Bor}
 use Rattle.std.specs.Option.{option_copied, option_map, option_map_or}

@@ -1,5 +1,6 @@
 -- Marks of modules, and the wanted ones of the modules so far.
-use Rattle.std.proofs.Common.{◌≡◌, ◌∙◌, ℕ, ◌+◌, ◌<◌, ◌≤◌, ◌++◌, ◌∷◌, ◌||◌, [], Bool, List, Option, add-zero, add-one, ap, arith, cond, false, filter, get_or, length, map, refl, suc, sym, take, true, zero}
+use Rattle.std.proofs.Common.{◌≡◌, ◌∙◌, ℕ, ◌+◌, ◌<◌, ◌≤◌, ◌++◌, ◌∷◌, ◌||◌, [], Bool, List, Option, add-zero, add-one, ap, arith, cond, false, filter, get_or}
+use Rattle.std.proofs.Common.{length, map, refl, suc, sym, take, true, zero}
 use Rattle.std.specs.List.{list_any, range_with_len}
 use Rattle.std.proofs.Math.Bool.{or-false}
 use Rattle.std.proofs.lemmas.List.{map_more, take_all}

@@ -3,7 +3,8 @@ use Rattle.std.specs.Prelude.{ℕ, ◌==◌, ◌&&◌, ◌||◌, Bool, false, tr
 use Rattle.std.specs.List.{list_any, range_with_len}
 use Rattle.std.specs.Option.{option_map_or}
 use Rattle.crash_symbols.specs.declared.symbols.SymbolState.{SymbolState}
-use Rattle.crash_symbols.specs.declared.symbols.SymbolState.TheVariants.{Unwanted, Missing, Loaded, Corrupt, OutOfMemory}
+use Rattle.crash_symbols.specs.declared.symbols.SymbolState.TheVariants.{Unwanted, Missing, Loaded, Corrupt}
+use Rattle.crash_symbols.specs.declared.symbols.SymbolState.TheVariants.{OutOfMemory}
 use Rattle.crash_symbols.specs.Backtraces.{BacktraceValue}
 use Rattle.crash_symbols.specs.Names.{NamedFrameValue}
 use Rattle.crash_symbols.specs.Symbols.{state_at}

@@ -1,5 +1,6 @@
 -- An escaped text has no control characters, and one without any is its own.
-use Rattle.std.proofs.Common.{◌≡◌, ℕ, ◌<◌, Bool, true, false, not, ◌&&◌, ◌||◌, List, [], ◌∷◌, ap, append-nil, refl, ◌∙◌, ⊎_elim, arith, chars, codes, encode_utf8_all, nat_lt, IsUtf8}
+use Rattle.std.proofs.Common.{◌≡◌, ℕ, ◌<◌, Bool, true, false, not, ◌&&◌, ◌||◌, List, [], ◌∷◌, ap, append-nil, refl, ◌∙◌, ⊎_elim, arith, chars, codes}
+use Rattle.std.proofs.Common.{encode_utf8_all, nat_lt, IsUtf8}
 use Rattle.std.proofs.lemmas.Bool.{cases_Bool}
 use Rattle.std.proofs.lemmas.Bool.Decides.{nat_tests}
 use Rattle.std.proofs.lemmas.Fmt.{digits_is_IsNumeral}

@@ -1,8 +1,10 @@
 -- Lines of names, as `names/compile` found them in the files of `names/`.
 use Rattle.std.specs.Prelude.{ℕ, List, ◌++◌}
 use Rattle.known_names.specs.declared.windows.TheConstants.{WINDOWS_1}
-use Rattle.known_names.specs.declared.nt_status.TheConstants.{NT_STATUS_1, NT_STATUS_2, NT_STATUS_3, NT_STATUS_4, NT_STATUS_5}
-use Rattle.known_names.specs.declared.win_error.TheConstants.{WIN_ERROR_1, WIN_ERROR_2, WIN_ERROR_3, WIN_ERROR_4, WIN_ERROR_5}
+use Rattle.known_names.specs.declared.nt_status.TheConstants.{NT_STATUS_1, NT_STATUS_2, NT_STATUS_3, NT_STATUS_4}
+use Rattle.known_names.specs.declared.nt_status.TheConstants.{NT_STATUS_5}
+use Rattle.known_names.specs.declared.win_error.TheConstants.{WIN_ERROR_1, WIN_ERROR_2, WIN_ERROR_3, WIN_ERROR_4}
+use Rattle.known_names.specs.declared.win_error.TheConstants.{WIN_ERROR_5}
 use Rattle.known_names.specs.declared.linux.TheConstants.{LINUX_1}
 use Rattle.known_names.specs.declared.macos.TheConstants.{MACOS_1}
 

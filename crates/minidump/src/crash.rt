@@ -1,6 +1,7 @@
 ghost use Rattle.std.specs.Prelude.{◌≡◌, ◌++◌, IfOk, OnOk, Some};
 ghost use Rattle.minidump_format.specs.Print.{Prints};
-ghost use Rattle.minidump.specs.Crash.{crash_lines, crash_text, last_error_line, last_error_of, number_line, reason_line, system_lines, values_lines, values_text};
+ghost use Rattle.minidump.specs.Crash.{crash_lines, crash_text, last_error_line, last_error_of, number_line};
+ghost use Rattle.minidump.specs.Crash.{reason_line, system_lines, values_lines, values_text};
 ghost use Rattle.minidump.specs.Dump.{dump_system};
 ghost use Rattle.minidump.specs.DumpValue.{dump_of};
 ghost use Rattle.minidump.specs.Exception.{exception_of};

@@ -44,7 +44,8 @@ impl<'a> Minidump<'a> {
     ghost use Rattle.minidump_format.specs.Answer.{Gives};
     ghost use Rattle.minidump.specs.Dump.{HasEntries, dump_in, dump_system, least_reads, streams_of};
     ghost use Rattle.minidump.specs.DumpValue.{dump_of};
-    ghost use Rattle.minidump.specs.Streams.{as_unknown, as_unimplemented, entries_of, streams_left, unknown_left, unimplemented_left};
+    ghost use Rattle.minidump.specs.Streams.{as_unknown, as_unimplemented, entries_of, streams_left, unknown_left};
+    ghost use Rattle.minidump.specs.Streams.{unimplemented_left};
 
     /// Reads the header, the directory and the system information of a minidump.
     ///

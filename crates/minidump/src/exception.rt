@@ -5,7 +5,8 @@ ghost use Rattle.minidump_context.specs.declared.validity.MinidumpContextValidit
 ghost use Rattle.minidump_reason.specs.Reason.{crash_reason};
 ghost use Rattle.minidump_format.specs.Print.{Prints};
 ghost use Rattle.minidump_system.specs.SystemInfo.{system_info_of};
-ghost use Rattle.minidump.specs.Exception.{crash_address, exception_context_text, exception_head, exception_stream, exception_text, location_lines, parameter_line, parameter_lines};
+ghost use Rattle.minidump.specs.Exception.{crash_address, exception_context_text, exception_head, exception_stream};
+ghost use Rattle.minidump.specs.Exception.{exception_text, location_lines, parameter_line, parameter_lines};
 ghost use Rattle.minidump.specs.Thread.{accepted_context};
 
 use crate::thread::{accepted_context, known_context};
@@ -160,12 +161,12 @@ fn push_head(out: &mut Vec<u8>, thread_id: u32, r: &MINIDUMP_EXCEPTION) -> Resul
 {
     push_pieces(out, &[
         Piece::Words("MINIDUMP_EXCEPTION\n"),
-        Piece::Words("  thread_id                                  = "), Piece::Hex(thread_id as u64),
-        Piece::Words("\n  exception_record.exception_code            = "), Piece::Hex(r.exception_code as u64),
-        Piece::Words("\n  exception_record.exception_flags           = "), Piece::Hex(r.exception_flags as u64),
-        Piece::Words("\n  exception_record.exception_record          = "), Piece::Hex(r.exception_record),
-        Piece::Words("\n  exception_record.exception_address         = "), Piece::Hex(r.exception_address),
-        Piece::Words("\n  exception_record.number_parameters         = "), Piece::Decimal(r.number_parameters as u64), Piece::Words("\n"),
+        Piece::Words("  thread_id                                  = "), Piece::Hex(thread_id as u64), Piece::Words("\n"),
+        Piece::Words("  exception_record.exception_code            = "), Piece::Hex(r.exception_code as u64), Piece::Words("\n"),
+        Piece::Words("  exception_record.exception_flags           = "), Piece::Hex(r.exception_flags as u64), Piece::Words("\n"),
+        Piece::Words("  exception_record.exception_record          = "), Piece::Hex(r.exception_record), Piece::Words("\n"),
+        Piece::Words("  exception_record.exception_address         = "), Piece::Hex(r.exception_address), Piece::Words("\n"),
+        Piece::Words("  exception_record.number_parameters         = "), Piece::Decimal(r.number_parameters as u64), Piece::Words("\n"),
     ])
 }
 
@@ -206,8 +207,8 @@ fn push_location(
     ensures { OnOk result (out.new.items ≡ out.old.items ++ location_lines location.now) }
 {
     push_pieces(out, &[
-        Piece::Words("  thread_context.data_size                   = "), Piece::Decimal(location.data_size as u64),
-        Piece::Words("\n  thread_context.rva                         = "), Piece::Hex(location.rva as u64), Piece::Words("\n"),
+        Piece::Words("  thread_context.data_size                   = "), Piece::Decimal(location.data_size as u64), Piece::Words("\n"),
+        Piece::Words("  thread_context.rva                         = "), Piece::Hex(location.rva as u64), Piece::Words("\n"),
     ])
 }
 

@@ -1,7 +1,8 @@
 //! Laws of the directory, of the streams and of lists of regions, over the definitions that the
 //! contracts of this crate name. Each is a call that does nothing; its contract says what holds.
 //! Those of reading are in `reading`, those of the records of the format in `records`.
-ghost use Rattle.std.specs.Prelude.{◌≡◌, ◌≢◌, ◌↔◌, ◌<◌, ◌^◌, ◌+◌, ℕ, ◌++◌, ◌∷◌, All, Contains, IsOk, IsOkAnd, IsSome, List, length, map, Option, Some};
+ghost use Rattle.std.specs.Prelude.{◌≡◌, ◌≢◌, ◌↔◌, ◌<◌, ◌^◌, ◌+◌, ℕ, ◌++◌, ◌∷◌, All, Contains, IsOk, IsOkAnd, IsSome};
+ghost use Rattle.std.specs.Prelude.{List, length, map, Option, Some};
 ghost use Rattle.std.specs.List.{last_or};
 ghost use Rattle.std.specs.List.Sorted.{IsStrictlyIncreasing};
 ghost use Rattle.std.specs.Result.{result_ok};
@@ -9,6 +10,8 @@ ghost use Rattle.minidump_format.specs.declared.format.header.MINIDUMP_DIRECTORY
 ghost use Rattle.minidump_format.specs.Guid.{guid_text};
 ghost use Rattle.minidump_format.specs.Header.{located};
 ghost use Rattle.minidump_format.specs.declared.format.memory.MINIDUMP_MEMORY_DESCRIPTOR.{MINIDUMP_MEMORY_DESCRIPTOR};
+ghost use Rattle.minidump_format.specs.declared.format.memory.MINIDUMP_MEMORY_DESCRIPTOR64.{};
+ghost use Rattle.minidump_format.specs.declared.format.memory.MINIDUMP_MEMORY_DESCRIPTOR64.{};
 ghost use Rattle.minidump_format.specs.declared.format.memory.MINIDUMP_MEMORY_DESCRIPTOR64.{MINIDUMP_MEMORY_DESCRIPTOR64};
 ghost use Rattle.minidump_format.specs.declared.format.thread.MINIDUMP_THREAD_INFO.{MINIDUMP_THREAD_INFO};
 ghost use Rattle.minidump_index.specs.Lookup.{IsLookedUp, looked_up};
@@ -33,6 +36,8 @@ ghost use Rattle.minidump_modules.specs.DebugId.{breakpad_text, debug_id_text};
 ghost use Rattle.minidump_modules.specs.Module.{ModuleValue, module_of, range_of_module};
 ghost use Rattle.minidump_modules.specs.ModuleList.{modules_of};
 ghost use Rattle.minidump_modules.specs.UnloadedModule.{UnloadedValue, unloaded_of};
+ghost use Rattle.minidump_records.specs.declared.handles.data_stream.MinidumpHandleDataStream.{};
+ghost use Rattle.minidump_records.specs.declared.handles.data_stream.MinidumpHandleDataStream.{};
 ghost use Rattle.minidump_records.specs.declared.handles.data_stream.MinidumpHandleDataStream.{MinidumpHandleDataStream};
 ghost use Rattle.minidump_records.specs.declared.mac_crash_info.MinidumpMacCrashInfo.{MinidumpMacCrashInfo};
 ghost use Rattle.minidump_records.specs.declared.thread_info.MinidumpThreadInfoList.{MinidumpThreadInfoList};
@@ -41,10 +46,18 @@ ghost use Rattle.minidump_records.specs.Handles.ObjectChain.{information_text};
 ghost use Rattle.minidump_records.specs.MacCrashInfo.Record.{MacRecord, mac_record_of};
 ghost use Rattle.minidump.specs.declared.directory.DecidingEntry.{DecidingEntry};
 ghost use Rattle.minidump.specs.Directory.{deciding_entry, directory};
-ghost use Rattle.minidump.specs.Dump.{Dump, raw_stream, bytes_of_span, stream_memory, stream_of, streams_of, dump_system};
+ghost use Rattle.minidump.specs.Dump.{Dump, raw_stream, bytes_of_span, stream_memory, stream_of, streams_of};
+ghost use Rattle.minidump.specs.Dump.{dump_system};
 ghost use Rattle.minidump.specs.Exceptions.{exceptions_in};
 ghost use Rattle.minidump.specs.Memory.{TakesMemory, memories_of_dump};
-ghost use Rattle.minidump.specs.Promise.{assertion_stream, breakpad_info_stream, crashpad_info_stream, exception_stream, handle_data_stream, linux_cpu_info_stream, linux_environ_stream, linux_lsb_release_stream, linux_maps_stream, linux_proc_limits_stream, linux_proc_status_stream, mac_bootargs_stream, mac_crash_info_stream, memory64_list_stream, memory_info_list_stream, memory_list_stream, misc_info_stream, module_list_stream, soft_errors_stream, stability_report_stream, system_info_stream, thread_info_list_stream, thread_list_stream, thread_names_stream, unloaded_module_list_stream};
+ghost use Rattle.minidump.specs.Promise.{assertion_stream, breakpad_info_stream, crashpad_info_stream};
+ghost use Rattle.minidump.specs.Promise.{exception_stream, handle_data_stream, linux_cpu_info_stream};
+ghost use Rattle.minidump.specs.Promise.{linux_environ_stream, linux_lsb_release_stream, linux_maps_stream};
+ghost use Rattle.minidump.specs.Promise.{linux_proc_limits_stream, linux_proc_status_stream, mac_bootargs_stream};
+ghost use Rattle.minidump.specs.Promise.{mac_crash_info_stream, memory64_list_stream, memory_info_list_stream};
+ghost use Rattle.minidump.specs.Promise.{memory_list_stream, misc_info_stream, module_list_stream, soft_errors_stream};
+ghost use Rattle.minidump.specs.Promise.{stability_report_stream, system_info_stream, thread_info_list_stream};
+ghost use Rattle.minidump.specs.Promise.{thread_list_stream, thread_names_stream, unloaded_module_list_stream};
 ghost use Rattle.minidump.specs.Streams.{unimplemented_of, unknown_of};
 ghost use Rattle.minidump.specs.Thread.{IsLastThread, Thread, thread_of};
 ghost use Rattle.minidump.specs.declared.thread_list.MinidumpThreadList.{MinidumpThreadList};

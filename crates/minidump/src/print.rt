@@ -2,7 +2,8 @@ ghost use Rattle.std.specs.Prelude.{◌≡◌, ◌++◌};
 ghost use Rattle.std.specs.List.{flat_map};
 ghost use Rattle.minidump_format.specs.Print.{Prints};
 ghost use Rattle.minidump_format.specs.Text.{line_end};
-ghost use Rattle.minidump.specs.Text.{dump_text, entry_text, header_text, stream_type_name, stream_text, streams_heading};
+ghost use Rattle.minidump.specs.Text.{dump_text, entry_text, header_text, stream_type_name, stream_text};
+ghost use Rattle.minidump.specs.Text.{streams_heading};
 ghost use Rattle.minidump.specs.Dump.{streams_of};
 ghost use Rattle.minidump.specs.DumpValue.{dump_of};
 
@@ -70,13 +71,13 @@ impl<'a> Pushed for HeaderText<'a> {
         let h = self.0;
         push_pieces(out, &[
             Piece::Words("MDRawHeader\n"),
-            Piece::Words("  signature            = "), Piece::Hex(h.signature as u64),
-            Piece::Words("\n  version              = "), Piece::Hex(h.version as u64),
-            Piece::Words("\n  stream_count         = "), Piece::Decimal(h.stream_count as u64),
-            Piece::Words("\n  stream_directory_rva = "), Piece::Hex(h.stream_directory_rva as u64),
-            Piece::Words("\n  checksum             = "), Piece::Hex(h.checksum as u64),
-            Piece::Words("\n  time_date_stamp      = "), Piece::Hex(h.time_date_stamp as u64),
-            Piece::Words("\n  flags                = "), Piece::Hex(h.flags), Piece::Words("\n\n"),
+            Piece::Words("  signature            = "), Piece::Hex(h.signature as u64), Piece::Words("\n"),
+            Piece::Words("  version              = "), Piece::Hex(h.version as u64), Piece::Words("\n"),
+            Piece::Words("  stream_count         = "), Piece::Decimal(h.stream_count as u64), Piece::Words("\n"),
+            Piece::Words("  stream_directory_rva = "), Piece::Hex(h.stream_directory_rva as u64), Piece::Words("\n"),
+            Piece::Words("  checksum             = "), Piece::Hex(h.checksum as u64), Piece::Words("\n"),
+            Piece::Words("  time_date_stamp      = "), Piece::Hex(h.time_date_stamp as u64), Piece::Words("\n"),
+            Piece::Words("  flags                = "), Piece::Hex(h.flags), Piece::Words("\n\n"),
         ])
     }
 }
@@ -89,10 +90,11 @@ impl Pushed for DecidingEntry {
     fn push(&self, out: &mut Vec<u8>) -> Result<(), AllocError> {
         let entry = &self.entry;
         push_pieces(out, &[
-            Piece::Words("mDirectory["), Piece::Decimal(self.index as u64),
-            Piece::Words("]\nMDRawDirectory\n  stream_type        = "), Piece::Hex(entry.stream_type as u64), Piece::Words(" ("), Piece::Words(type_name(entry.stream_type)),
-            Piece::Words(")\n  location.data_size = "), Piece::Decimal(entry.location.data_size as u64),
-            Piece::Words("\n  location.rva       = "), Piece::Hex(entry.location.rva as u64), Piece::Words("\n\n"),
+            Piece::Words("mDirectory["), Piece::Decimal(self.index as u64), Piece::Words("]\n"),
+            Piece::Words("MDRawDirectory\n"),
+            Piece::Words("  stream_type        = "), Piece::Hex(entry.stream_type as u64), Piece::Words(" ("), Piece::Words(type_name(entry.stream_type)), Piece::Words(")\n"),
+            Piece::Words("  location.data_size = "), Piece::Decimal(entry.location.data_size as u64), Piece::Words("\n"),
+            Piece::Words("  location.rva       = "), Piece::Hex(entry.location.rva as u64), Piece::Words("\n\n"),
         ])
     }
 }

@@ -47,6 +47,7 @@ impl<'a> SharedStreams<'a> {
     }
 }
 
+// Reads the list of memory with 64-bit ranges.
 fn read_memory64<'a>(dump: &Minidump<'a>, alloc: Global) -> Result<UnifiedMemoryList<'a>, Error>
     ensures { IsListOf memory64_list_stream Memory64 (dump_of dump.now) result }
 {
@@ -56,6 +57,7 @@ fn read_memory64<'a>(dump: &Minidump<'a>, alloc: Global) -> Result<UnifiedMemory
     }
 }
 
+// Reads the list of memory with 32-bit ranges.
 fn read_memory<'a>(dump: &Minidump<'a>, alloc: Global) -> Result<UnifiedMemoryList<'a>, Error>
     ensures { IsListOf memory_list_stream Memory (dump_of dump.now) result }
 {

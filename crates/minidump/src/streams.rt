@@ -1,7 +1,8 @@
 ghost use Rattle.std.specs.Prelude.{◌≡◌};
 ghost use Rattle.std.specs.Option.{option_map};
 ghost use Rattle.std.specs.Iterator.{YieldsFirstRef, YieldsFirstBy, item_count};
-ghost use Rattle.minidump.specs.Streams.{streams_left, unknown_left, unimplemented_left, unknown_of, unimplemented_of, as_unknown, as_unimplemented};
+ghost use Rattle.minidump.specs.Streams.{streams_left, unknown_left, unimplemented_left, unknown_of, unimplemented_of};
+ghost use Rattle.minidump.specs.Streams.{as_unknown, as_unimplemented};
 
 use crate::directory::DecidingEntry;
 use minidump_format::format::{

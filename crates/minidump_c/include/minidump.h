@@ -267,7 +267,7 @@ struct minidump_crash {
 
 /* A frame of a stack. */
 struct minidump_frame {
-    uint64_t address;           /* by which it is looked up: that below a return address, on ARM without its bit 0, which lies in the call */
+    uint64_t address;           /* by which it is looked up: for a return address the one below it, within the call; bit 0 of ARM's is cleared first */
     uint64_t instruction;       /* of the context, or else the return address of the frame before */
     uint64_t stack_pointer;     /* where no context has it, the address after the return address */
     uint64_t frame_pointer;     /* 0 if it isn't known */

@@ -1,5 +1,6 @@
 -- Rows that a loop makes of items, and the texts that it appends.
-use Rattle.std.proofs.Common.{◌≡◌, ◌∙◌, ◌<◌, ◌≤◌, ◌+◌, ◌++◌, ◌∷◌, [], ℕ, List, suc, add-one, ap, append-nil, append_assoc, drop, drop-cons, get_or, length, map, sym}
+use Rattle.std.proofs.Common.{◌≡◌, ◌∙◌, ◌<◌, ◌≤◌, ◌+◌, ◌++◌, ◌∷◌, [], ℕ, List, suc, add-one, ap, append-nil, append_assoc, drop, drop-cons, get_or, length, map}
+use Rattle.std.proofs.Common.{sym}
 use Rattle.std.proofs.lemmas.List.{drop_all}
 use Rattle.minidump_c.specs.Spans.{rows_after, texts_after}
 

@@ -17,8 +17,12 @@ use Rattle.minidump_format.specs.declared.format.system.ProcessorArchitecture.{P
 use Rattle.minidump_format.specs.declared.format.system.ProcessorArchitecture.TheVariants.{PROCESSOR_ARCHITECTURE_INTEL}
 use Rattle.minidump_format.specs.declared.format.system.ProcessorArchitecture.TheVariants.{PROCESSOR_ARCHITECTURE_ARM}
 use Rattle.minidump_format.specs.declared.format.system.ProcessorArchitecture.TheVariants.{PROCESSOR_ARCHITECTURE_AMD64}
+use Rattle.minidump_format.specs.declared.format.system.ProcessorArchitecture.TheVariants.{}
+use Rattle.minidump_format.specs.declared.format.system.ProcessorArchitecture.TheVariants.{}
 use Rattle.minidump_format.specs.declared.format.system.ProcessorArchitecture.TheVariants.{PROCESSOR_ARCHITECTURE_IA32_ON_WIN64}
 use Rattle.minidump_format.specs.declared.format.system.ProcessorArchitecture.TheVariants.{PROCESSOR_ARCHITECTURE_ARM64}
+use Rattle.minidump_format.specs.declared.format.system.ProcessorArchitecture.TheVariants.{}
+use Rattle.minidump_format.specs.declared.format.system.ProcessorArchitecture.TheVariants.{}
 use Rattle.minidump_format.specs.declared.format.system.ProcessorArchitecture.TheVariants.{PROCESSOR_ARCHITECTURE_ARM64_OLD}
 use Rattle.minidump_context.specs.declared.context.ContextError.{ContextError}
 use Rattle.minidump_context.specs.declared.context.ContextError.TheVariants.{ReadFailure, UnknownCpuContext}

@@ -2,7 +2,9 @@ ghost use Rattle.std.proofs.Common.{rules};
 ghost use Rattle.std.specs.Prelude.{◌≡◌, IfOk, IfSome, IsOkUnless, IsSome, OnErr, Some, map, string_bytes};
 ghost use Rattle.std.specs.Option.{option_copied};
 ghost use Rattle.minidump_context.specs.Register.{names_of, register_text, set_names, value_of};
-ghost use Rattle.minidump_context.specs.Context.{processor_context, context_in, context_of, context_registers_left, value_in, is_of, map_ok, register_name_in, registers_of, valid_value_in, valid_registers_from};
+ghost use Rattle.minidump_context.specs.Context.{processor_context, context_in, context_of, context_registers_left};
+ghost use Rattle.minidump_context.specs.Context.{value_in, is_of, map_ok, register_name_in, registers_of};
+ghost use Rattle.minidump_context.specs.Context.{valid_value_in, valid_registers_from};
 
 use crate::raw_context::with_context;
 use crate::{

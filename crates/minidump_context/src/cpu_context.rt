@@ -1,9 +1,12 @@
-ghost use Rattle.std.specs.Prelude.{◌≡◌, ◌↔◌, ◌<◌, ◌*◌, ℕ, List, Option, Some, None, IsSome, if◌then◌else◌, IfOk, IsOkUnless, IfSome, string_bytes, length, map, slice_set};
+ghost use Rattle.std.specs.Prelude.{◌≡◌, ◌↔◌, ◌<◌, ◌*◌, ℕ, List, Option, Some, None, IsSome, if◌then◌else◌, IfOk};
+ghost use Rattle.std.specs.Prelude.{IsOkUnless, IfSome, string_bytes, length, map, slice_set};
 ghost use Rattle.std.specs.List.{slice_get};
 ghost use Rattle.std.specs.Option.{option_copied};
 ghost use Rattle.minidump_bytes.specs.declared.endian.Endian.{Endian};
 ghost use Rattle.minidump_bytes.specs.Number.{number_at};
-ghost use Rattle.minidump_context.specs.Register.{register_index, register_name, value_of, is_valid, names_of, valid_from, registers_left, register_text, IsChanged, AreRegisterNames};
+ghost use Rattle.minidump_context.specs.Register.{register_index, register_name, value_of, is_valid, names_of};
+ghost use Rattle.minidump_context.specs.Register.{valid_from, registers_left, register_text, IsChanged};
+ghost use Rattle.minidump_context.specs.Register.{AreRegisterNames};
 
 use crate::names::register_index;
 use crate::{CpuRegisters, MinidumpContextValidity};

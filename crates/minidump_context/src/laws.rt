@@ -1,14 +1,17 @@
 //! Laws of registers, for the context of every processor.
-ghost use Rattle.std.specs.Prelude.{◌≡◌, ◌≢◌, ◌↔◌, ◌%◌, ◌^◌, ℕ, [], codes, IsSome, IsTrue, List, Some, None, is_some, true, length, map, position};
+ghost use Rattle.std.specs.Prelude.{◌≡◌, ◌≢◌, ◌↔◌, ◌%◌, ◌^◌, ℕ, [], codes, IsSome, IsTrue, List, Some, None, is_some};
+ghost use Rattle.std.specs.Prelude.{true, length, map, position};
 ghost use Rattle.std.specs.List.{range_with_len, list_all};
 ghost use Rattle.std.specs.Str.{bytes_eq};
 ghost use Rattle.minidump_bytes.specs.declared.endian.Endian.{Endian};
 ghost use Rattle.minidump_bytes.specs.Number.{number_at};
 ghost use Rattle.minidump_context.specs.Amd64.{amd64_registers, amd64_rest, amd64_values};
 ghost use Rattle.minidump_context.specs.Arm.{arm_aliases, arm_registers, arm_rest, arm_values};
-ghost use Rattle.minidump_context.specs.Arm64.{arm64_aliases, arm64_old_rest, arm64_old_values, arm64_registers, arm64_rest, arm64_values};
+ghost use Rattle.minidump_context.specs.Arm64.{arm64_aliases, arm64_old_rest, arm64_old_values, arm64_registers};
+ghost use Rattle.minidump_context.specs.Arm64.{arm64_rest, arm64_values};
 ghost use Rattle.minidump_context.specs.X86.{x86_registers, x86_rest, x86_values};
-ghost use Rattle.minidump_context.specs.Register.{names_of, register_index, value_of, holds, is_valid, IsChanged, IsSameValidity};
+ghost use Rattle.minidump_context.specs.Register.{names_of, register_index, value_of, holds, is_valid, IsChanged};
+ghost use Rattle.minidump_context.specs.Register.{IsSameValidity};
 
 use crate::{
     ContextRegisters, CpuContext, CpuRegisterNames, CpuRegisters, MinidumpContextValidity,

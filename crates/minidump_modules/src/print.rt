@@ -150,12 +150,12 @@ fn push_entry(
 {
     let date = date_of(*out.allocator(), stamp)?;
     push_pieces(out, &[
-        Piece::Words("  base_of_image                   = "), Piece::Hex(base),
-        Piece::Words("\n  size_of_image                   = "), Piece::Hex(size as u64),
-        Piece::Words("\n  checksum                        = "), Piece::Hex(checksum as u64),
-        Piece::Words("\n  time_date_stamp                 = "),
-            Piece::Hex(stamp as u64), Piece::Words(" "), Piece::Words(date.as_str()),
-        Piece::Words("\n  module_name_rva                 = "), Piece::Hex(name_rva as u64), Piece::Words("\n"),
+        Piece::Words("  base_of_image                   = "), Piece::Hex(base), Piece::Words("\n"),
+        Piece::Words("  size_of_image                   = "), Piece::Hex(size as u64), Piece::Words("\n"),
+        Piece::Words("  checksum                        = "), Piece::Hex(checksum as u64), Piece::Words("\n"),
+        Piece::Words("  time_date_stamp                 = "),
+            Piece::Hex(stamp as u64), Piece::Words(" "), Piece::Words(date.as_str()), Piece::Words("\n"),
+        Piece::Words("  module_name_rva                 = "), Piece::Hex(name_rva as u64), Piece::Words("\n"),
     ])
 }
 
@@ -165,18 +165,18 @@ fn push_version_info(out: &mut Vec<u8>, v: &VS_FIXEDFILEINFO) -> Result<(), Allo
     ensures { OnOk result (out.new.items ≡ out.old.items ++ version_info_text v.now) }
 {
     push_pieces(out, &[
-        Piece::Words("  version_info.signature          = "), Piece::Hex(v.signature as u64),
-        Piece::Words("\n  version_info.struct_version     = "), Piece::Hex(v.struct_version as u64),
-        Piece::Words("\n  version_info.file_version       = "),
-            Piece::Hex(v.file_version_hi as u64), Piece::Words(":"), Piece::Hex(v.file_version_lo as u64),
-        Piece::Words("\n  version_info.product_version    = "),
-            Piece::Hex(v.product_version_hi as u64), Piece::Words(":"), Piece::Hex(v.product_version_lo as u64),
-        Piece::Words("\n  version_info.file_flags_mask    = "), Piece::Hex(v.file_flags_mask as u64),
-        Piece::Words("\n  version_info.file_flags         = "), Piece::Hex(v.file_flags as u64),
-        Piece::Words("\n  version_info.file_os            = "), Piece::Hex(v.file_os as u64),
-        Piece::Words("\n  version_info.file_type          = "), Piece::Hex(v.file_type as u64),
-        Piece::Words("\n  version_info.file_subtype       = "), Piece::Hex(v.file_subtype as u64),
-        Piece::Words("\n  version_info.file_date          = "),
+        Piece::Words("  version_info.signature          = "), Piece::Hex(v.signature as u64), Piece::Words("\n"),
+        Piece::Words("  version_info.struct_version     = "), Piece::Hex(v.struct_version as u64), Piece::Words("\n"),
+        Piece::Words("  version_info.file_version       = "),
+            Piece::Hex(v.file_version_hi as u64), Piece::Words(":"), Piece::Hex(v.file_version_lo as u64), Piece::Words("\n"),
+        Piece::Words("  version_info.product_version    = "),
+            Piece::Hex(v.product_version_hi as u64), Piece::Words(":"), Piece::Hex(v.product_version_lo as u64), Piece::Words("\n"),
+        Piece::Words("  version_info.file_flags_mask    = "), Piece::Hex(v.file_flags_mask as u64), Piece::Words("\n"),
+        Piece::Words("  version_info.file_flags         = "), Piece::Hex(v.file_flags as u64), Piece::Words("\n"),
+        Piece::Words("  version_info.file_os            = "), Piece::Hex(v.file_os as u64), Piece::Words("\n"),
+        Piece::Words("  version_info.file_type          = "), Piece::Hex(v.file_type as u64), Piece::Words("\n"),
+        Piece::Words("  version_info.file_subtype       = "), Piece::Hex(v.file_subtype as u64), Piece::Words("\n"),
+        Piece::Words("  version_info.file_date          = "),
             Piece::Hex(v.file_date_hi as u64), Piece::Words(":"), Piece::Hex(v.file_date_lo as u64), Piece::Words("\n"),
     ])
 }
@@ -187,10 +187,10 @@ fn push_locations(out: &mut Vec<u8>, raw: &MINIDUMP_MODULE) -> Result<(), AllocE
     ensures { OnOk result (out.new.items ≡ out.old.items ++ locations_text raw.now) }
 {
     push_pieces(out, &[
-        Piece::Words("  cv_record.data_size             = "), Piece::Decimal(raw.cv_record.data_size as u64),
-        Piece::Words("\n  cv_record.rva                   = "), Piece::Hex(raw.cv_record.rva as u64),
-        Piece::Words("\n  misc_record.data_size           = "), Piece::Decimal(raw.misc_record.data_size as u64),
-        Piece::Words("\n  misc_record.rva                 = "), Piece::Hex(raw.misc_record.rva as u64), Piece::Words("\n"),
+        Piece::Words("  cv_record.data_size             = "), Piece::Decimal(raw.cv_record.data_size as u64), Piece::Words("\n"),
+        Piece::Words("  cv_record.rva                   = "), Piece::Hex(raw.cv_record.rva as u64), Piece::Words("\n"),
+        Piece::Words("  misc_record.data_size           = "), Piece::Decimal(raw.misc_record.data_size as u64), Piece::Words("\n"),
+        Piece::Words("  misc_record.rva                 = "), Piece::Hex(raw.misc_record.rva as u64), Piece::Words("\n"),
     ])
 }
 
@@ -212,8 +212,8 @@ fn push_code_lines<'t>(out: &mut Vec<u8>, file: &'t str, identifier: &'t str) ->
     ensures { OnOk result (out.new.items ≡ out.old.items ++ code_text file.now identifier.now) }
 {
     push_pieces(out, &[
-        Piece::Words("  (code_file)                     = \""), Piece::Words(file),
-        Piece::Words("\"\n  (code_identifier)               = \""), Piece::Words(identifier), Piece::Words("\"\n"),
+        Piece::Words("  (code_file)                     = \""), Piece::Words(file), Piece::Words("\"\n"),
+        Piece::Words("  (code_identifier)               = \""), Piece::Words(identifier), Piece::Words("\"\n"),
     ])
 }
 
@@ -248,10 +248,10 @@ fn push_pdb70_lines<'t>(out: &mut Vec<u8>, cv: &CV_INFO_PDB70, guid: &'t str, na
         ++ pdb70_text cv.now.cv_signature guid.now cv.now.age name.now) }
 {
     push_pieces(out, &[
-        Piece::Words("  (cv_record).cv_signature        = "), Piece::Hex(cv.cv_signature as u64),
-        Piece::Words("\n  (cv_record).signature           = "), Piece::Words(guid),
-        Piece::Words("\n  (cv_record).age                 = "), Piece::Decimal(cv.age as u64),
-        Piece::Words("\n  (cv_record).pdb_file_name       = \""), Piece::Words(name), Piece::Words("\"\n"),
+        Piece::Words("  (cv_record).cv_signature        = "), Piece::Hex(cv.cv_signature as u64), Piece::Words("\n"),
+        Piece::Words("  (cv_record).signature           = "), Piece::Words(guid), Piece::Words("\n"),
+        Piece::Words("  (cv_record).age                 = "), Piece::Decimal(cv.age as u64), Piece::Words("\n"),
+        Piece::Words("  (cv_record).pdb_file_name       = \""), Piece::Words(name), Piece::Words("\"\n"),
     ])
 }
 
@@ -272,12 +272,12 @@ fn push_pdb20_lines<'t>(out: &mut Vec<u8>, cv: &CV_INFO_PDB20, date: &'t str, na
         cv.now.age name.now) }
 {
     push_pieces(out, &[
-        Piece::Words("  (cv_record).cv_header.signature = "), Piece::Hex(cv.cv_signature as u64),
-        Piece::Words("\n  (cv_record).cv_header.offset    = "), Piece::Hex(cv.cv_offset as u64),
-        Piece::Words("\n  (cv_record).signature           = "),
-            Piece::Hex(cv.signature as u64), Piece::Words(" "), Piece::Words(date),
-        Piece::Words("\n  (cv_record).age                 = "), Piece::Decimal(cv.age as u64),
-        Piece::Words("\n  (cv_record).pdb_file_name       = \""), Piece::Words(name), Piece::Words("\"\n"),
+        Piece::Words("  (cv_record).cv_header.signature = "), Piece::Hex(cv.cv_signature as u64), Piece::Words("\n"),
+        Piece::Words("  (cv_record).cv_header.offset    = "), Piece::Hex(cv.cv_offset as u64), Piece::Words("\n"),
+        Piece::Words("  (cv_record).signature           = "),
+            Piece::Hex(cv.signature as u64), Piece::Words(" "), Piece::Words(date), Piece::Words("\n"),
+        Piece::Words("  (cv_record).age                 = "), Piece::Decimal(cv.age as u64), Piece::Words("\n"),
+        Piece::Words("  (cv_record).pdb_file_name       = \""), Piece::Words(name), Piece::Words("\"\n"),
     ])
 }
 
@@ -289,8 +289,8 @@ fn push_elf(out: &mut Vec<u8>, cv: &CV_INFO_ELF) -> Result<(), AllocError>
 {
     let id = hex::encode(*out.allocator(), &cv.build_id)?;
     push_pieces(out, &[
-        Piece::Words("  (cv_record).cv_signature        = "), Piece::Hex(cv.cv_signature as u64),
-        Piece::Words("\n  (cv_record).build_id            = "), Piece::Words(id.as_str()), Piece::Words("\n"),
+        Piece::Words("  (cv_record).cv_signature        = "), Piece::Hex(cv.cv_signature as u64), Piece::Words("\n"),
+        Piece::Words("  (cv_record).build_id            = "), Piece::Words(id.as_str()), Piece::Words("\n"),
     ])
 }
 
@@ -332,10 +332,10 @@ fn push_debug_lines<'t>(
 {
     push_pieces(out, &[
         Piece::Words("  (misc_record)                   = (null)\n"),
-        Piece::Words("  (debug_file)                    = \""), Piece::Words(file),
-        Piece::Words("\"\n  (debug_identifier)              = \""), Piece::Words(identifier),
-        Piece::Words("\"\n  (version)                       = \""), Piece::Words(version),
-        Piece::Words("\"\n\n"),
+        Piece::Words("  (debug_file)                    = \""), Piece::Words(file), Piece::Words("\"\n"),
+        Piece::Words("  (debug_identifier)              = \""), Piece::Words(identifier), Piece::Words("\"\n"),
+        Piece::Words("  (version)                       = \""), Piece::Words(version), Piece::Words("\"\n"),
+        Piece::Words("\n"),
     ])
 }
 

@@ -1,5 +1,6 @@
 -- A line of a text of names: `FAMILY NUMBER NAME`, a comment, or nothing.
-use Rattle.std.specs.Prelude.{◌≡◌, ◌≢◌, ◌⊎◌, ◌++◌, ◌==◌, ◌||◌, ◌&&◌, ℕ, Bool, false, List, [], ◌∷◌, codes, length, nat_lt, not, slice_index, Option, Some, None}
+use Rattle.std.specs.Prelude.{◌≡◌, ◌≢◌, ◌⊎◌, ◌++◌, ◌==◌, ◌||◌, ◌&&◌, ℕ, Bool, false, List, [], ◌∷◌, codes, length}
+use Rattle.std.specs.Prelude.{nat_lt, not, slice_index, Option, Some, None}
 use Rattle.std.specs.Prelude.{if◌then◌else◌}
 use Rattle.std.specs.List.{list_any}
 use Rattle.std.specs.Option.{option_map, option_or}
@@ -9,15 +10,24 @@ use Rattle.minidump_bytes.specs.LinuxOsStr.{after_prefix, cut_first, is_white}
 use Rattle.minidump_bytes.specs.Text8.{utf8_text}
 use Rattle.minidump_memory.specs.MapLine.{IsCut, and_then}
 use Rattle.minidump_reason.specs.declared.family.CodeFamily.{CodeFamily}
-use Rattle.minidump_reason.specs.declared.family.CodeFamily.TheVariants.{Mac, MacBadAccessKern, MacBadAccessArm, MacBadAccessPpc, MacBadAccessX86}
-use Rattle.minidump_reason.specs.declared.family.CodeFamily.TheVariants.{MacBadInstructionArm, MacBadInstructionPpc, MacBadInstructionX86}
-use Rattle.minidump_reason.specs.declared.family.CodeFamily.TheVariants.{MacArithmeticArm, MacArithmeticPpc, MacArithmeticX86, MacBreakpointArm}
-use Rattle.minidump_reason.specs.declared.family.CodeFamily.TheVariants.{MacBreakpointPpc, MacBreakpointX86, MacSoftware, MacResource, MacResourceCpu}
-use Rattle.minidump_reason.specs.declared.family.CodeFamily.TheVariants.{MacResourceWakeups, MacResourceMemory, MacResourceIo, MacResourceThreads}
-use Rattle.minidump_reason.specs.declared.family.CodeFamily.TheVariants.{MacGuard, MacGuardMachPort, MacGuardFd, MacGuardVn, MacGuardVirtMemory}
-use Rattle.minidump_reason.specs.declared.family.CodeFamily.TheVariants.{MacGuardRejectedSysCall, Linux, LinuxSicode, LinuxSigill, LinuxSigtrap}
-use Rattle.minidump_reason.specs.declared.family.CodeFamily.TheVariants.{LinuxSigbus, LinuxSigfpe, LinuxSigsegv, LinuxSigsys, Windows, WinError}
-use Rattle.minidump_reason.specs.declared.family.CodeFamily.TheVariants.{WinErrorFacility, NtStatus, FastFail, WindowsAccess, WindowsInPageError}
+use Rattle.minidump_reason.specs.declared.family.CodeFamily.TheVariants.{Mac, MacBadAccessKern, MacBadAccessArm}
+use Rattle.minidump_reason.specs.declared.family.CodeFamily.TheVariants.{MacBadAccessPpc, MacBadAccessX86}
+use Rattle.minidump_reason.specs.declared.family.CodeFamily.TheVariants.{MacBadInstructionArm, MacBadInstructionPpc}
+use Rattle.minidump_reason.specs.declared.family.CodeFamily.TheVariants.{MacBadInstructionX86}
+use Rattle.minidump_reason.specs.declared.family.CodeFamily.TheVariants.{MacArithmeticArm, MacArithmeticPpc}
+use Rattle.minidump_reason.specs.declared.family.CodeFamily.TheVariants.{MacArithmeticX86, MacBreakpointArm}
+use Rattle.minidump_reason.specs.declared.family.CodeFamily.TheVariants.{MacBreakpointPpc, MacBreakpointX86}
+use Rattle.minidump_reason.specs.declared.family.CodeFamily.TheVariants.{MacSoftware, MacResource, MacResourceCpu}
+use Rattle.minidump_reason.specs.declared.family.CodeFamily.TheVariants.{MacResourceWakeups, MacResourceMemory}
+use Rattle.minidump_reason.specs.declared.family.CodeFamily.TheVariants.{MacResourceIo, MacResourceThreads}
+use Rattle.minidump_reason.specs.declared.family.CodeFamily.TheVariants.{MacGuard, MacGuardMachPort, MacGuardFd}
+use Rattle.minidump_reason.specs.declared.family.CodeFamily.TheVariants.{MacGuardVn, MacGuardVirtMemory}
+use Rattle.minidump_reason.specs.declared.family.CodeFamily.TheVariants.{MacGuardRejectedSysCall, Linux, LinuxSicode}
+use Rattle.minidump_reason.specs.declared.family.CodeFamily.TheVariants.{LinuxSigill, LinuxSigtrap}
+use Rattle.minidump_reason.specs.declared.family.CodeFamily.TheVariants.{LinuxSigbus, LinuxSigfpe, LinuxSigsegv}
+use Rattle.minidump_reason.specs.declared.family.CodeFamily.TheVariants.{LinuxSigsys, Windows, WinError}
+use Rattle.minidump_reason.specs.declared.family.CodeFamily.TheVariants.{WinErrorFacility, NtStatus, FastFail}
+use Rattle.minidump_reason.specs.declared.family.CodeFamily.TheVariants.{WindowsAccess, WindowsInPageError}
 use Rattle.minidump_names.specs.declared.line.Listing.{Listing as Lent}
 
 -- ---- families

@@ -1,6 +1,7 @@
 -- A text of names: lines, each of which lists a code with its name, or nothing. The codes of a
 -- family ascend.
-use Rattle.std.specs.Prelude.{◌≡◌, ◌+◌, ◌++◌, ◌<◌, ◌≤◌, ℕ, List, [], ◌∷◌, All, AllPairs, Any, IsSome, Some, None, filter, map, slice_get, take, unwrap_or}
+use Rattle.std.specs.Prelude.{◌≡◌, ◌+◌, ◌++◌, ◌<◌, ◌≤◌, ℕ, List, [], ◌∷◌, All, AllPairs, Any, IsSome, Some, None}
+use Rattle.std.specs.Prelude.{filter, map, slice_get, take, unwrap_or}
 use Rattle.std.specs.List.{flat_map}
 use Rattle.minidump_bytes.specs.LinuxOsStr.{split_parts}
 use Rattle.minidump_reason.specs.declared.family.CodeFamily.{CodeFamily}

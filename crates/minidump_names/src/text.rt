@@ -1,6 +1,7 @@
 ghost use Rattle.std.specs.Prelude.{◌≡◌, ◌≤◌, ◌<◌, All, Any, MatchBool, MatchResult, Some, map};
 ghost use Rattle.minidump_names.specs.NameLine.{line_in, listing_of};
-ghost use Rattle.minidump_names.specs.NamesText.{AreLines, InOrder, IsAbove, IsNotAbove, IsLineError, IsNamesTextError, AddsLine, lines_in, listings_in};
+ghost use Rattle.minidump_names.specs.NamesText.{AreLines, InOrder, IsAbove, IsNotAbove, IsLineError, IsNamesTextError};
+ghost use Rattle.minidump_names.specs.NamesText.{AddsLine, lines_in, listings_in};
 
 use crate::NamesError;
 use crate::line::{Listing, listing_in, says_nothing};

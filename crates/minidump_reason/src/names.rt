@@ -1,7 +1,8 @@
 ghost use Rattle.std.specs.Prelude.{◌≡◌, [], All, MatchBool, MatchOption, MatchResult, if◌then◌else◌};
 ghost use Rattle.std.specs.List.{list_any};
 ghost use Rattle.std.specs.Option.{option_copied};
-ghost use Rattle.minidump_reason.specs.Names.{AreCodeNames, IsAscending, IsFirstListError, entries_of, is_family, is_in, list_of, lists_of, name_in, name_of};
+ghost use Rattle.minidump_reason.specs.Names.{AreCodeNames, IsAscending, IsFirstListError, entries_of, is_family};
+ghost use Rattle.minidump_reason.specs.Names.{is_in, list_of, lists_of, name_in, name_of};
 
 use crate::CodeFamily;
 use std::marker::Model;

@@ -1,6 +1,7 @@
 ghost use Rattle.std.specs.Prelude.{◌≡◌, ◌++◌, OnOk, string_bytes};
 ghost use Rattle.minidump_reason.specs.Bits.{bits_of};
-ghost use Rattle.minidump_reason.specs.ReasonText.{cpu_limit, io_limit, memory_limit, resource_flavor, resource_text, threads_limit, wakeups_limit};
+ghost use Rattle.minidump_reason.specs.ReasonText.{cpu_limit, io_limit, memory_limit, resource_flavor, resource_text};
+ghost use Rattle.minidump_reason.specs.ReasonText.{threads_limit, wakeups_limit};
 
 use crate::bits::bits_of;
 use crate::flavor::Flavor;

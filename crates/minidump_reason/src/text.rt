@@ -2,7 +2,8 @@ ghost use Rattle.std.specs.Prelude.{◌≡◌, ◌++◌, IfOk, IsOkUnless, IsUtf
 ghost use Rattle.std.specs.List.{flat_map};
 ghost use Rattle.minidump_bytes.specs.Piece.{piece_text};
 ghost use Rattle.minidump_format.specs.Print.{Prints};
-ghost use Rattle.minidump_reason.specs.ReasonText.{linux_general_text, name_with_prefix, mac_general_text, name_text, reason_text, windows_general_text};
+ghost use Rattle.minidump_reason.specs.ReasonText.{linux_general_text, name_with_prefix, mac_general_text, name_text};
+ghost use Rattle.minidump_reason.specs.ReasonText.{reason_text, windows_general_text};
 
 use crate::guard::push_guard;
 use crate::resource::push_resource;

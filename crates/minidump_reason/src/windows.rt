@@ -1,5 +1,6 @@
 ghost use Rattle.std.specs.Prelude.{◌≡◌, Some};
-ghost use Rattle.minidump_reason.specs.Reason.{windows_code, windows_error, windows_error_with_facility, windows_reason};
+ghost use Rattle.minidump_reason.specs.Reason.{windows_code, windows_error, windows_error_with_facility};
+ghost use Rattle.minidump_reason.specs.Reason.{windows_reason};
 
 use crate::bits::bits_of;
 use crate::{CodeFamily, CodeNames, CrashReason};

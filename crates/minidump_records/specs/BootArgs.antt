@@ -1,5 +1,6 @@
 -- The arguments of macOS's boot: Mozilla's MDRawMacBootargs.
-use Rattle.std.specs.Prelude.{ℕ, List, ◌++◌, codes, length, Option, Result, Ok, nat_le, if◌then◌else◌, string_bytes, IsSomeAnd}
+use Rattle.std.specs.Prelude.{ℕ, List, ◌++◌, codes, length, Option, Result, Ok, nat_le, if◌then◌else◌, string_bytes}
+use Rattle.std.specs.Prelude.{IsSomeAnd}
 use Rattle.std.specs.Option.{ok_or, option_map, option_or}
 use Rattle.minidump_bytes.specs.declared.endian.Endian.{Endian}
 use Rattle.minidump_bytes.specs.Layout.{Layout}

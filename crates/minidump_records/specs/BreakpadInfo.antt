@@ -9,7 +9,8 @@ use Rattle.minidump_format.specs.declared.format.stream_type.MINIDUMP_STREAM_TYP
 use Rattle.minidump_format.specs.declared.error.Error.{Error}
 use Rattle.minidump_format.specs.declared.error.Error.TheVariants.{StreamReadFailure}
 use Rattle.minidump_format.specs.declared.format.breakpad.MINIDUMP_BREAKPAD_INFO.{MINIDUMP_BREAKPAD_INFO}
-use Rattle.minidump_format.specs.declared.format.breakpad.TheConstants.BreakpadInfoValid.{DumpThreadId, RequestingThreadId}
+use Rattle.minidump_format.specs.declared.format.breakpad.TheConstants.BreakpadInfoValid.{DumpThreadId}
+use Rattle.minidump_format.specs.declared.format.breakpad.TheConstants.BreakpadInfoValid.{RequestingThreadId}
 use Rattle.minidump_format.specs.Breakpad.{breakpad_info}
 use Rattle.minidump_format.specs.StreamType.{number_of}
 use Rattle.minidump_system.specs.StreamSpec.{StreamSpec}

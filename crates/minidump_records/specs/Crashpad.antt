@@ -4,18 +4,22 @@ pub mod Parts
 pub mod Dictionary
 pub mod Annotations
 pub mod Text
-use Rattle.std.specs.Prelude.{ℕ, ◌+◌, ◌==◌, ◌⊎◌, IsOkAnd, IsSomeAnd, List, Result, Ok, Err, map, string_bytes, if◌then◌else◌, ◌*◌, ◌-◌}
+use Rattle.std.specs.Prelude.{ℕ, ◌+◌, ◌==◌, ◌⊎◌, IsOkAnd, IsSomeAnd, List, Result, Ok, Err, map, string_bytes}
+use Rattle.std.specs.Prelude.{if◌then◌else◌, ◌*◌, ◌-◌}
 use Rattle.std.specs.List.{sum_by}
 use Rattle.std.specs.Option.{ok_or}
 use Rattle.minidump_bytes.specs.declared.endian.Endian.{Endian}
 use Rattle.minidump_bytes.specs.Layout.{number_layout}
 use Rattle.minidump_bytes.specs.Span.{record_at}
 use Rattle.minidump_format.specs.declared.format.stream_type.MINIDUMP_STREAM_TYPE.TheVariants.{CrashpadInfoStream}
-use Rattle.minidump_format.specs.Crashpad.{annotation, crashpad_info, dictionary_entry, module_crashpad_info, module_link}
+use Rattle.minidump_format.specs.Crashpad.{annotation, crashpad_info, dictionary_entry, module_crashpad_info}
+use Rattle.minidump_format.specs.Crashpad.{module_link}
 use Rattle.minidump_format.specs.declared.error.Error.{Error}
 use Rattle.minidump_format.specs.declared.error.Error.TheVariants.{StreamReadFailure, VersionMismatch}
 use Rattle.minidump_format.specs.declared.format.crashpad.MINIDUMP_CRASHPAD_INFO.{MINIDUMP_CRASHPAD_INFO}
 use Rattle.minidump_format.specs.declared.format.crashpad.MINIDUMP_MODULE_CRASHPAD_INFO.{MINIDUMP_MODULE_CRASHPAD_INFO}
+use Rattle.minidump_format.specs.declared.format.crashpad.MINIDUMP_MODULE_CRASHPAD_INFO_LINK.{}
+use Rattle.minidump_format.specs.declared.format.crashpad.MINIDUMP_MODULE_CRASHPAD_INFO_LINK.{}
 use Rattle.minidump_format.specs.declared.format.crashpad.MINIDUMP_MODULE_CRASHPAD_INFO_LINK.{MINIDUMP_MODULE_CRASHPAD_INFO_LINK}
 use Rattle.minidump_format.specs.declared.format.header.MINIDUMP_LOCATION_DESCRIPTOR.{MINIDUMP_LOCATION_DESCRIPTOR}
 use Rattle.minidump_format.specs.StreamType.{number_of}

@@ -1,7 +1,8 @@
 -- The open handles of a process: Microsoft's MINIDUMP_HANDLE_DATA_STREAM.
 pub mod Descriptor
 pub mod ObjectChain
-use Rattle.std.specs.Prelude.{ℕ, ◌+◌, ◌==◌, List, [], ◌∷◌, ◌++◌, codes, Option, None, Result, Ok, map, string_bytes, if◌then◌else◌, IsOkAnd, ◌<◌, length, ◌*◌, ◌-◌}
+use Rattle.std.specs.Prelude.{ℕ, ◌+◌, ◌==◌, List, [], ◌∷◌, ◌++◌, codes, Option, None, Result, Ok, map, string_bytes}
+use Rattle.std.specs.Prelude.{if◌then◌else◌, IsOkAnd, ◌<◌, length, ◌*◌, ◌-◌}
 use Rattle.std.specs.List.{concat, flat_map, sum_by, filter_map}
 use Rattle.std.specs.Fmt.{decimal}
 use Rattle.std.specs.Option.{option_map, unwrap_or}
@@ -20,9 +21,12 @@ use Rattle.minidump_system.specs.Framing.{handle_list, handles_in}
 use Rattle.minidump_system.specs.Reads.{and_then}
 use Rattle.minidump_records.specs.declared.handles.data_stream.MinidumpHandleDataStream.{MinidumpHandleDataStream}
 use Rattle.minidump_records.specs.declared.handles.descriptor.MinidumpHandleDescriptor.{MinidumpHandleDescriptor}
+use Rattle.minidump_records.specs.declared.handles.information.MinidumpHandleObjectInformation.{}
+use Rattle.minidump_records.specs.declared.handles.information.MinidumpHandleObjectInformation.{}
 use Rattle.minidump_records.specs.declared.handles.information.MinidumpHandleObjectInformation.{MinidumpHandleObjectInformation}
 use Rattle.minidump_records.specs.declared.handles.raw.RawHandleDescriptor.{RawHandleDescriptor}
-use Rattle.minidump_records.specs.declared.handles.raw.RawHandleDescriptor.TheVariants.{HandleDescriptor, HandleDescriptor2}
+use Rattle.minidump_records.specs.declared.handles.raw.RawHandleDescriptor.TheVariants.{HandleDescriptor}
+use Rattle.minidump_records.specs.declared.handles.raw.RawHandleDescriptor.TheVariants.{HandleDescriptor2}
 use Rattle.minidump_records.specs.Handles.Descriptor.{object_info_rva, object_name_rva, type_name_rva}
 use Rattle.minidump_records.specs.Handles.ObjectChain.{chain_reads, information_at, information_text, next_of, reads_at}
 use Rattle.minidump_format.specs.Numbered.{numbered_list}

@@ -1,7 +1,8 @@
 -- The crash information of macOS: Mozilla's MDRawMacCrashInfo.
 pub mod Record
 pub mod Text
-use Rattle.std.specs.Prelude.{ℕ, ◌+◌, ◌==◌, List, ◌∷◌, map, min, take, Option, Some, None, Result, Ok, Err, slice_range, if◌then◌else◌, IsSomeAnd, ◌<◌, ◌*◌}
+use Rattle.std.specs.Prelude.{ℕ, ◌+◌, ◌==◌, List, ◌∷◌, map, min, take, Option, Some, None, Result, Ok, Err, slice_range}
+use Rattle.std.specs.Prelude.{if◌then◌else◌, IsSomeAnd, ◌<◌, ◌*◌}
 use Rattle.std.specs.List.{filter_map, sum_by, zip}
 use Rattle.std.specs.Option.{ok_or, option_and_then, option_map}
 use Rattle.minidump_bytes.specs.declared.endian.Endian.{Endian}

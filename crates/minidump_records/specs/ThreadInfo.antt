@@ -1,5 +1,6 @@
 -- The state of threads: Microsoft's MINIDUMP_THREAD_INFO_LIST.
-use Rattle.std.specs.Prelude.{IsOkAnd, ℕ, ◌+◌, ◌<◌, ◌==◌, List, [], ◌∷◌, codes, find, length, map, reverse, Option, Result}
+use Rattle.std.specs.Prelude.{IsOkAnd, ℕ, ◌+◌, ◌<◌, ◌==◌, List, [], ◌∷◌, codes, find, length, map, reverse, Option}
+use Rattle.std.specs.Prelude.{Result}
 use Rattle.std.specs.List.{concat}
 use Rattle.minidump_bytes.specs.declared.endian.Endian.{Endian}
 use Rattle.minidump_bytes.specs.Piece.{hex}

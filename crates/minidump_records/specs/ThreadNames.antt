@@ -1,5 +1,6 @@
 -- The names of threads: Microsoft's MINIDUMP_THREAD_NAME_LIST.
-use Rattle.std.specs.Prelude.{Any, IsOkAnd, IsSome, ◌⊎◌, ℕ, ◌+◌, ◌*◌, ◌^◌, ◌==◌, List, [], ◌∷◌, codes, map, reverse, Option, Result, Ok, string_bytes}
+use Rattle.std.specs.Prelude.{Any, IsOkAnd, IsSome, ◌⊎◌, ℕ, ◌+◌, ◌*◌, ◌^◌, ◌==◌, List, [], ◌∷◌, codes, map, reverse}
+use Rattle.std.specs.Prelude.{Option, Result, Ok, string_bytes}
 use Rattle.std.specs.List.{concat, filter_map, range_with_len}
 use Rattle.std.specs.Map.{lookup}
 use Rattle.std.specs.Option.{option_map}

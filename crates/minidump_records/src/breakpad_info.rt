@@ -1,6 +1,7 @@
 ghost use Rattle.std.specs.Prelude.{◌≡◌, ◌++◌, OnOk};
 ghost use Rattle.minidump_format.specs.Print.{Prints};
-ghost use Rattle.minidump_records.specs.BreakpadInfo.{breakpad_in, breakpad_info_stream, breakpad_info_text, where_valid};
+ghost use Rattle.minidump_records.specs.BreakpadInfo.{breakpad_in, breakpad_info_stream, breakpad_info_text};
+ghost use Rattle.minidump_records.specs.BreakpadInfo.{where_valid};
 
 use minidump_bytes::{Endian, Piece, Source, Steps, Told, push_pieces};
 use minidump_format::format::MINIDUMP_BREAKPAD_INFO;

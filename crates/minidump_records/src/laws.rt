@@ -11,6 +11,7 @@ ghost use Rattle.minidump_records.specs.Handles.{chain_offsets, object_chain};
 ghost use Rattle.minidump_system.specs.LastValues.{IsDictionaryOf, dictionary_of};
 ghost use Rattle.minidump_records.specs.ThreadInfo.{last_info};
 ghost use Rattle.minidump_records.specs.ThreadNames.{ThreadName, last_name_of_each_thread, name_of_thread};
+ghost use Rattle.minidump_records.specs.declared.handles.information.MinidumpHandleObjectInformation.{};
 ghost use Rattle.minidump_records.specs.declared.handles.information.MinidumpHandleObjectInformation.{MinidumpHandleObjectInformation};
 ghost use Rattle.minidump_records.specs.declared.handles.raw.RawHandleDescriptor.{RawHandleDescriptor};
 ghost use Rattle.minidump_system.specs.Chain.{IsChain};

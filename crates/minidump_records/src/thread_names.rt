@@ -1,4 +1,5 @@
-ghost use Rattle.std.specs.Prelude.{◌≡◌, ◌^◌, ◌+◌, ◌*◌, ◌++◌, ◌≤◌, [], ◌↔◌, length, Any, IfOk, IsOkUnless, IsTrue, OnErr, OnOk, map, string_bytes};
+ghost use Rattle.std.specs.Prelude.{◌≡◌, ◌^◌, ◌+◌, ◌*◌, ◌++◌, ◌≤◌, [], ◌↔◌, length, Any, IfOk, IsOkUnless, IsTrue};
+ghost use Rattle.std.specs.Prelude.{OnErr, OnOk, map, string_bytes};
 ghost use Rattle.std.specs.BTreeMap.{IsOrdered, Updates};
 ghost use Rattle.std.specs.List.{filter_map};
 ghost use Rattle.std.specs.Option.{option_copied, option_map};
@@ -7,7 +8,9 @@ ghost use Rattle.minidump_bytes.specs.Source.{bytes_of};
 ghost use Rattle.minidump_bytes.specs.Steps.{after};
 ghost use Rattle.minidump_bytes.specs.Text16.{TakesMemory16, text16};
 ghost use Rattle.minidump_format.specs.Print.{Prints};
-ghost use Rattle.minidump_records.specs.ThreadNames.{NameTakesMemory, last_name_of_each_thread, name_of_thread, thread_name_in, thread_name_text, thread_names_of, thread_names_stream, thread_names_text};
+ghost use Rattle.minidump_records.specs.ThreadNames.{NameTakesMemory, last_name_of_each_thread, name_of_thread};
+ghost use Rattle.minidump_records.specs.ThreadNames.{thread_name_in, thread_name_text, thread_names_of};
+ghost use Rattle.minidump_records.specs.ThreadNames.{thread_names_stream, thread_names_text};
 
 use minidump_bytes::{Endian, Entries, Piece, Source, Steps, Told, push_pieces};
 use minidump_format::format::MINIDUMP_THREAD_NAME;

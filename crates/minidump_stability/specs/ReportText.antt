@@ -6,6 +6,7 @@ use Rattle.minidump_format.specs.Text.{if_there}
 use Rattle.minidump_stability.specs.declared.process_state.FileSystemState.{FileSystemState}
 use Rattle.minidump_stability.specs.declared.process_state.MemoryState.{MemoryState}
 use Rattle.minidump_stability.specs.declared.process_state.file_system_state.PosixFileSystemState.{PosixFileSystemState}
+use Rattle.minidump_stability.specs.declared.process_state.file_system_state.WindowsFileSystemState.{}
 use Rattle.minidump_stability.specs.declared.process_state.file_system_state.WindowsFileSystemState.{WindowsFileSystemState}
 use Rattle.minidump_stability.specs.declared.process_state.memory_state.WindowsMemory.{WindowsMemory}
 use Rattle.minidump_stability.specs.declared.report.ProcessState.{ProcessState}

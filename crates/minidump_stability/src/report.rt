@@ -148,7 +148,8 @@ impl StabilityReport {
 }
 
 impl Message for StabilityReport {
-    ghost use Rattle.minidump_stability.specs.StabilityReport.{IsState, Report, no_report, report_fields, stability_report_of};
+    ghost use Rattle.minidump_stability.specs.StabilityReport.{IsState, Report, no_report, report_fields};
+    ghost use Rattle.minidump_stability.specs.StabilityReport.{stability_report_of};
     ghost use Rattle.minidump_stability.specs.ReportRows.{put_report};
 
     ghost Value = { Report };

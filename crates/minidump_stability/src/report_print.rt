@@ -1,8 +1,12 @@
 ghost use Rattle.std.specs.Prelude.{◌≡◌, ◌++◌, OnOk};
 ghost use Rattle.minidump_format.specs.Print.{Prints};
 ghost use Rattle.minidump_format.specs.Text.{if_there};
-ghost use Rattle.minidump_stability.specs.ReportText.{file_system_state_text, memory_state_text, number_line, posix_file_system_state_text, process_id_line, process_state_text, process_states_text};
-ghost use Rattle.minidump_stability.specs.ReportText.{stability_report_text, state_line, system_memory_state_text, system_windows_memory_text, windows_file_system_state_text, windows_memory_text};
+ghost use Rattle.minidump_stability.specs.ReportText.{file_system_state_text, memory_state_text, number_line};
+ghost use Rattle.minidump_stability.specs.ReportText.{posix_file_system_state_text, process_id_line};
+ghost use Rattle.minidump_stability.specs.ReportText.{process_state_text, process_states_text};
+ghost use Rattle.minidump_stability.specs.ReportText.{stability_report_text, state_line, system_memory_state_text};
+ghost use Rattle.minidump_stability.specs.ReportText.{system_windows_memory_text, windows_file_system_state_text};
+ghost use Rattle.minidump_stability.specs.ReportText.{windows_memory_text};
 ghost use Rattle.minidump_stability.specs.StabilityReport.{stability_report_of};
 
 use crate::process_state::file_system_state::{PosixFileSystemState, WindowsFileSystemState};

@@ -10,7 +10,8 @@ use Rattle.minidump.specs.Below.System.Cpu.{pointer_bytes}
 use Rattle.stack_walk.specs.declared.frame.FrameTrust.TheVariants.{Scan}
 use Rattle.stack_walk.specs.declared.frame.StackFrame.{StackFrame}
 use Rattle.stack_walk.specs.Evidence.{HasEvidence}
-use Rattle.stack_walk.specs.Frames.{AreCallers, AreFrames, StackValue, candidate_at, candidate_by, context_frame, firsts, may_have_called, pointer_at, scan, word_candidate, word_candidates, words_above, words_below}
+use Rattle.stack_walk.specs.Frames.{AreCallers, AreFrames, StackValue, candidate_at, candidate_by, context_frame, firsts, may_have_called, pointer_at, scan}
+use Rattle.stack_walk.specs.Frames.{word_candidate, word_candidates, words_above, words_below}
 use Rattle.stack_walk.specs.Lookups.{call_site}
 use Rattle.stack_walk.proofs.CallerLemmas.{Record, has_record, passed, step}
 use Rattle.stack_walk.proofs.FoundLemmas.{All-firsts}

@@ -1,5 +1,6 @@
 -- The scan leaves out no return address of an aligned word that has a candidate, and has none twice.
-use Rattle.std.proofs.Common.{◌≡◌, ◌∙◌, ℕ, zero, suc, ◌+◌, ◌-◌, ◌*◌, ◌<◌, ◌≤◌, ◌⊎◌, inl, inr, List, [], ◌∷◌, ◌++◌, length, map, take, get_or, Bool, true, false, cond, Option, Some, None, refl, ap, sym, subst, arith, length-append}
+use Rattle.std.proofs.Common.{◌≡◌, ◌∙◌, ℕ, zero, suc, ◌+◌, ◌-◌, ◌*◌, ◌<◌, ◌≤◌, ◌⊎◌, inl, inr, List, [], ◌∷◌, ◌++◌, length, map, take, get_or, Bool, true, false}
+use Rattle.std.proofs.Common.{cond, Option, Some, None, refl, ap, sym, subst, arith, length-append}
 use Rattle.std.specs.Prelude.{Contains, filter, max, not, slice_get, ◌==◌}
 use Rattle.std.specs.List.{AllByRecursion, IsDistinct, cons_option, filter_map, range_with_len}
 use Rattle.std.specs.Option.{option_and_then, option_map_or}
@@ -19,7 +20,8 @@ use Rattle.minidump.specs.Below.System.Cpu.{pointer_bytes}
 use Rattle.stack_walk.specs.declared.frame.FrameTrust.{FrameTrust}
 use Rattle.stack_walk.specs.declared.frame.FrameTrust.TheVariants.{FramePointer}
 use Rattle.stack_walk.specs.declared.frame.StackFrame.{StackFrame}
-use Rattle.stack_walk.specs.Frames.{StackValue, candidate_at, candidate_by, firsts, is_other, pointer_at, record_by, scan, stack_bytes, word_candidate, word_candidates, words_above, words_below, words_between, words_from}
+use Rattle.stack_walk.specs.Frames.{StackValue, candidate_at, candidate_by, firsts, is_other, pointer_at, record_by, scan, stack_bytes, word_candidate}
+use Rattle.stack_walk.specs.Frames.{word_candidates, words_above, words_below, words_between, words_from}
 use Rattle.stack_walk.proofs.CallerLemmas.{base_of, end_of, in_stack, passed, step, wide}
 
 -- ---- what is given of the numbers of a range

@@ -22,7 +22,7 @@ pub enum WalkEnd {
     /// 2^64 or beyond.
     NoRecord,
     /// The return address is 0, or no kept module contains the address below it. On ARM of 32 bits
-    /// its bit 0 is cleared first.
+    /// bit 0 of the return address is cleared first.
     NoCode,
 }
 

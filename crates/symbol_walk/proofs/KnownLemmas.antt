@@ -8,7 +8,8 @@ use Rattle.std.proofs.lemmas.List.{map-append, take_all, take_more}
 use Rattle.std.proofs.lemmas.List.Elements.{filter_map-append}
 use Rattle.symbol_walk.specs.declared.registers.KnownRegister.{KnownRegister}
 use Rattle.symbol_walk.specs.declared.registers.Register.{Register}
-use Rattle.symbol_walk.specs.Registers.{RegisterRow, is_frame_pointer, is_stack_pointer, known_by, known_frame_pointer, known_of, known_stack_pointer, known_value, labelled_value, row_of, value_where}
+use Rattle.symbol_walk.specs.Registers.{RegisterRow, is_frame_pointer, is_stack_pointer, known_by, known_frame_pointer, known_of, known_stack_pointer}
+use Rattle.symbol_walk.specs.Registers.{known_value, labelled_value, row_of, value_where}
 
 module _ (value : RegisterRow → Option ℕ) where
   abbrev one : RegisterRow → Option (List ℕ × ℕ)

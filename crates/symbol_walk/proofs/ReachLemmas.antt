@@ -1,5 +1,6 @@
 -- The caller of a frame stands on the stack, above it, or for a context's frame at it.
-use Rattle.std.proofs.Common.{◌≡◌, ◌∙◌, ◌<◌, ◌≤◌, ◌+◌, ◌-◌, ◌*◌, ◌^◌, ◌∷◌, [], ℕ, List, Option, Some, None, Bool, true, false, ap, length, refl, sym, subst, arith, ◌⊎◌, inl, inr}
+use Rattle.std.proofs.Common.{◌≡◌, ◌∙◌, ◌<◌, ◌≤◌, ◌+◌, ◌-◌, ◌*◌, ◌^◌, ◌∷◌, [], ℕ, List, Option, Some, None, Bool, true, false, ap, length, refl, sym, subst}
+use Rattle.std.proofs.Common.{arith, ◌⊎◌, inl, inr}
 use Rattle.std.specs.Prelude.{cond, nat_le, nat_lt, is_some, ◌&&◌, if◌then◌else◌}
 use Rattle.std.specs.List.{cons_option, filter_map, find, range_with_len}
 use Rattle.std.specs.Option.{option_and_then, option_map, option_map_or, option_or}

@@ -6,7 +6,7 @@ ghost use Rattle.crash_html.specs.Page.{page_with};
 ghost use Rattle.crash_symbols.specs.Backtraces.{backtraces_in, backtraces_of};
 ghost use Rattle.crash_symbols.specs.Shown.{symbolized_of};
 ghost use Rattle.crash_symbols.specs.Symbols.{known_of};
-ghost use Rattle.whocrashed.specs.Form.{IsByFiles, form_in, json_in, shown_with};
+ghost use Rattle.whocrashed.specs.Form.{IsByFiles, form_in, shown_with};
 ghost use Rattle.whocrashed.specs.Symbols.{has_dirs};
 
 use crate::options::Form;
@@ -104,7 +104,7 @@ impl Reporter<'_, '_> {
     }
 
     // Makes the form of a crash that is asked for, by these symbols.
-    #[tactic(auto, unfolding(crate::specs::Form::form_in))]
+    #[tactic(auto, unfolding(crate::specs::Form::form_in, crate::specs::Form::json_in))]
     fn form_by(
         &self,
         path: &str,
@@ -114,33 +114,19 @@ impl Reporter<'_, '_> {
         ensures { IfOk result (λ form. form.items ≡ form_in self.now.form self.now.limits path.now
             (option_map symbolized_of (option_copied symbols.entry)) (crash_of crash.now)) }
     {
-        match self.form {
-            Form::Lines => Ok(text_of(self.rt.alloc(), crash, &self.limits, symbols)?.into_bytes()),
-            Form::Json => Ok(end_line(self.json_by(path, crash, symbols)?)?),
-            Form::Html => {
-                let json = self.json_by(path, crash, symbols)?;
-                Ok(page_of(self.rt.alloc(), &json)?)
-            }
-        }
-    }
-
-    // Makes the JSON of a crash by these symbols.
-    #[tactic(auto, unfolding(crate::specs::Form::json_in))]
-    fn json_by(
-        &self,
-        path: &str,
-        crash: &Crash<'_>,
-        symbols: Option<&Symbolized<'_, '_>>,
-    ) -> Result<Vec<u8>, AllocError>
-        ensures json { IfOk result (λ json. json.items ≡ json_in self.now.limits path.now
-            (option_map symbolized_of (option_copied symbols.entry)) (crash_of crash.now)) }
-        ensures utf8 { IfOk result (λ json. IsUtf8 json.items) }
-    {
+        let alloc = self.rt.alloc();
         let limits = JsonLimits {
             frames: self.limits.frames,
             environment: self.limits.environment,
         };
-        json_of(self.rt.alloc(), Some(path), crash, &limits, symbols)
+        match self.form {
+            Form::Lines => Ok(text_of(alloc, crash, &self.limits, symbols)?.into_bytes()),
+            Form::Json => end_line(json_of(alloc, Some(path), crash, &limits, symbols)?),
+            Form::Html => {
+                let json = json_of(alloc, Some(path), crash, &limits, symbols)?;
+                page_of(alloc, &json)
+            }
+        }
     }
 }
 

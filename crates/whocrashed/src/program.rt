@@ -1,7 +1,7 @@
 ghost use Rattle.std.specs.Prelude.{◌≡◌, ◌<◌, ◌≤◌, ◌==◌, ◌&&◌, IfOk, length, not};
 
 use crate::complain::{complain, complain_at_end, complain_of, say};
-use crate::input::{Dump, dumps_in, read_input};
+use crate::input::{dumps_in, read_input};
 use crate::names::names_text;
 use crate::options::Options;
 use crate::report::Reporter;
@@ -115,7 +115,8 @@ fn reporter_of<'l, 'n>(
 }
 
 // Reports on the dumps of the arguments, and on those of the list on standard input if there is one.
-// Returns the greatest of their statuses, or 1 if the list can't be read.
+// Returns the greatest of their statuses, or 1 if the list can't be read. A closed pipe ends the run:
+// then those of the dumps before it count.
 fn report_dumps(reporter: &Reporter<'_, '_>, options: &Options<'_>) -> io::Result<u8>
     ensures { IfOk result (λ status. status < 2) }
 {
@@ -135,13 +136,18 @@ fn report_dumps(reporter: &Reporter<'_, '_>, options: &Options<'_>) -> io::Resul
         options.symbols.as_slice(),
         options.symbols_limit,
     );
-    let status = report_each(
-        reporter,
-        dumps.as_slice(),
-        &mut cache,
-        options.shows_progress,
-    )?;
-    Ok(if list.is_some() { status } else { 1 })
+    let mut worst = if list.is_some() { 0 } else { 1 };
+    for (i, dump) in dumps.iter().enumerate() {
+        match reporter.report(*dump, &mut cache) {
+            Ok(status) => worst = status.max(worst),
+            Err(error) if error.kind() == io::ErrorKind::BrokenPipe => return Ok(worst),
+            Err(error) => return Err(error),
+        }
+        if options.shows_progress {
+            show_progress(reporter.rt, i, dumps.len());
+        }
+    }
+    Ok(worst)
 }
 
 // Reads the list of paths on standard input. Returns `None` if it can't be read, which it says.
@@ -153,30 +159,6 @@ fn read_list(reporter: &Reporter<'_, '_>) -> io::Result<Option<Vec<u8>>> {
         Err(error) => complain_of(reporter.rt, name, &error)?,
     }
     Ok(None)
-}
-
-// Reports on each dump, and returns the greatest of their statuses. A closed pipe ends the run: then
-// those of the dumps before it count.
-fn report_each(
-    reporter: &Reporter<'_, '_>,
-    dumps: &[Dump<'_>],
-    cache: &mut SymbolCache<'_>,
-    shows_progress: bool,
-) -> io::Result<u8>
-    ensures { IfOk result (λ status. status < 2) }
-{
-    let mut worst = 0;
-    for (i, dump) in dumps.iter().enumerate() {
-        match reporter.report(*dump, cache) {
-            Ok(status) => worst = status.max(worst),
-            Err(error) if error.kind() == io::ErrorKind::BrokenPipe => return Ok(worst),
-            Err(error) => return Err(error),
-        }
-        if shows_progress {
-            show_progress(reporter.rt, i, dumps.len());
-        }
-    }
-    Ok(worst)
 }
 
 // Prints how many dumps are done of how many, after each hundredth part of them and the last one.

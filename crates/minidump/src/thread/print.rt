@@ -6,7 +6,9 @@ ghost use Rattle.minidump_format.specs.Text.{line_end};
 ghost use Rattle.minidump_system.specs.SystemInfo.{system_info_of};
 ghost use Rattle.minidump_memory.specs.Unified.{unified_list, unified_region};
 ghost use Rattle.minidump.specs.Thread.{known_context, thread_of};
-ghost use Rattle.minidump.specs.ThreadText.{stack_in_list, no_stack, no_thread_context, pointer_width, stack_heading, stack_of, stack_text, thread_context_text, thread_end, thread_head, thread_head_of, thread_text, stack_words_text};
+ghost use Rattle.minidump.specs.ThreadText.{stack_in_list, no_stack, no_thread_context, pointer_width, stack_heading};
+ghost use Rattle.minidump.specs.ThreadText.{stack_of, stack_text, thread_context_text, thread_end, thread_head};
+ghost use Rattle.minidump.specs.ThreadText.{thread_head_of, thread_text, stack_words_text};
 
 use super::stack::print_words;
 use super::{MinidumpThread, known_context};
@@ -169,16 +171,16 @@ fn push_entry(out: &mut Vec<u8>, t: &MINIDUMP_THREAD) -> Result<(), AllocError>
 {
     push_pieces(out, &[
         Piece::Words("MINIDUMP_THREAD\n"),
-        Piece::Words("  thread_id                   = "), Piece::Hex(t.thread_id as u64),
-        Piece::Words("\n  suspend_count               = "), Piece::Decimal(t.suspend_count as u64),
-        Piece::Words("\n  priority_class              = "), Piece::Hex(t.priority_class as u64),
-        Piece::Words("\n  priority                    = "), Piece::Hex(t.priority as u64),
-        Piece::Words("\n  teb                         = "), Piece::Hex(t.teb),
-        Piece::Words("\n  stack.start_of_memory_range = "), Piece::Hex(t.stack.start_of_memory_range),
-        Piece::Words("\n  stack.memory.data_size      = "), Piece::Hex(t.stack.memory.data_size as u64),
-        Piece::Words("\n  stack.memory.rva            = "), Piece::Hex(t.stack.memory.rva as u64),
-        Piece::Words("\n  thread_context.data_size    = "), Piece::Hex(t.thread_context.data_size as u64),
-        Piece::Words("\n  thread_context.rva          = "), Piece::Hex(t.thread_context.rva as u64), Piece::Words("\n\n"),
+        Piece::Words("  thread_id                   = "), Piece::Hex(t.thread_id as u64), Piece::Words("\n"),
+        Piece::Words("  suspend_count               = "), Piece::Decimal(t.suspend_count as u64), Piece::Words("\n"),
+        Piece::Words("  priority_class              = "), Piece::Hex(t.priority_class as u64), Piece::Words("\n"),
+        Piece::Words("  priority                    = "), Piece::Hex(t.priority as u64), Piece::Words("\n"),
+        Piece::Words("  teb                         = "), Piece::Hex(t.teb), Piece::Words("\n"),
+        Piece::Words("  stack.start_of_memory_range = "), Piece::Hex(t.stack.start_of_memory_range), Piece::Words("\n"),
+        Piece::Words("  stack.memory.data_size      = "), Piece::Hex(t.stack.memory.data_size as u64), Piece::Words("\n"),
+        Piece::Words("  stack.memory.rva            = "), Piece::Hex(t.stack.memory.rva as u64), Piece::Words("\n"),
+        Piece::Words("  thread_context.data_size    = "), Piece::Hex(t.thread_context.data_size as u64), Piece::Words("\n"),
+        Piece::Words("  thread_context.rva          = "), Piece::Hex(t.thread_context.rva as u64), Piece::Words("\n\n"),
     ])
 }
 

@@ -1,5 +1,6 @@
 ghost use Rattle.std.specs.Prelude.{◌≡◌, ◌++◌, OnOk};
-ghost use Rattle.minidump_context.specs.Text.{arm_flags_line, arm_float_lines, arm_iregs_lines, arm_status_lines, arm_text};
+ghost use Rattle.minidump_context.specs.Text.{arm_flags_line, arm_float_lines, arm_iregs_lines, arm_status_lines};
+ghost use Rattle.minidump_context.specs.Text.{arm_text};
 
 use crate::print::lines::{Front, push_numbered, push_register};
 use minidump_format::format::CONTEXT_ARM;

@@ -1,5 +1,6 @@
 ghost use Rattle.std.specs.Prelude.{◌≡◌, ◌++◌, OnOk};
-ghost use Rattle.minidump_context.specs.Text.{arm64_lines, arm64_old_text, arm64_text, d_lines, state_lines, watch_lines, x_lines};
+ghost use Rattle.minidump_context.specs.Text.{arm64_lines, arm64_old_text, arm64_text, d_lines, state_lines};
+ghost use Rattle.minidump_context.specs.Text.{watch_lines, x_lines};
 
 use crate::print::lines::{Front, push_numbered, push_register, push_registers};
 use minidump_format::format::{CONTEXT_ARM64, CONTEXT_ARM64_OLD};

@@ -8,7 +8,8 @@ use Rattle.minidump_format.specs.declared.error.Error.TheVariants.{StreamReadFai
 use Rattle.minidump_format.specs.declared.format.crashpad.MINIDUMP_ANNOTATION.{MINIDUMP_ANNOTATION}
 use Rattle.minidump_system.specs.Reads.{and_then}
 use Rattle.minidump_records.specs.declared.crashpad.annotation.MinidumpAnnotation.{MinidumpAnnotation}
-use Rattle.minidump_records.specs.declared.crashpad.annotation.MinidumpAnnotation.TheVariants.{Invalid, String, UserDefined, Unsupported}
+use Rattle.minidump_records.specs.declared.crashpad.annotation.MinidumpAnnotation.TheVariants.{Invalid, String}
+use Rattle.minidump_records.specs.declared.crashpad.annotation.MinidumpAnnotation.TheVariants.{UserDefined, Unsupported}
 
 -- the value of an annotation; of types that are not read it is the record
 pub data Annotation : Type 0 where

@@ -2,7 +2,8 @@
 -- MINIDUMP_HANDLE_DESCRIPTOR_2.
 use Rattle.std.specs.Prelude.{ℕ, Option, Some, None}
 use Rattle.minidump_records.specs.declared.handles.raw.RawHandleDescriptor.{RawHandleDescriptor}
-use Rattle.minidump_records.specs.declared.handles.raw.RawHandleDescriptor.TheVariants.{HandleDescriptor, HandleDescriptor2}
+use Rattle.minidump_records.specs.declared.handles.raw.RawHandleDescriptor.TheVariants.{HandleDescriptor}
+use Rattle.minidump_records.specs.declared.handles.raw.RawHandleDescriptor.TheVariants.{HandleDescriptor2}
 
 -- Handle: the operating system's value of the handle
 abbrev pub handle : RawHandleDescriptor → Option ℕ

@@ -5,8 +5,12 @@ use Rattle.std.specs.Fmt.{digits}
 use Rattle.std.specs.Option.{option_and_then, option_map}
 use Rattle.minidump_bytes.specs.declared.endian.Endian.{Endian}
 use Rattle.minidump_bytes.specs.Span.{record_at}
+use Rattle.minidump_format.specs.declared.format.handle.MINIDUMP_HANDLE_OBJECT_INFORMATION.{}
+use Rattle.minidump_format.specs.declared.format.handle.MINIDUMP_HANDLE_OBJECT_INFORMATION.{}
 use Rattle.minidump_format.specs.declared.format.handle.MINIDUMP_HANDLE_OBJECT_INFORMATION.{MINIDUMP_HANDLE_OBJECT_INFORMATION}
 use Rattle.minidump_format.specs.Handle.{information_type_of, object_information}
+use Rattle.minidump_records.specs.declared.handles.information.MinidumpHandleObjectInformation.{}
+use Rattle.minidump_records.specs.declared.handles.information.MinidumpHandleObjectInformation.{}
 use Rattle.minidump_records.specs.declared.handles.information.MinidumpHandleObjectInformation.{MinidumpHandleObjectInformation}
 
 -- a record with its type, which has to be one of 0 to 8

@@ -1,5 +1,6 @@
 -- Texts that Linux wrote, as a dump keeps them: pairs of a key and a value, line by line.
-use Rattle.std.specs.Prelude.{ℕ, ◌-◌, ◌==◌, ◌&&◌, Bool, List, length, slice_index, slice_range, Option, nat_le, if◌then◌else◌}
+use Rattle.std.specs.Prelude.{ℕ, ◌-◌, ◌==◌, ◌&&◌, Bool, List, length, slice_index, slice_range, Option, nat_le}
+use Rattle.std.specs.Prelude.{if◌then◌else◌}
 use Rattle.std.specs.List.{filter_map}
 use Rattle.std.specs.Option.{option_map}
 use Rattle.minidump_bytes.specs.LinuxOsStr.{cut_first, text_lines, trimmed}

@@ -1,5 +1,6 @@
 -- A record of the crash information of macOS: Mozilla's MDRawMacCrashInfoRecord, by its version.
-use Rattle.std.specs.Prelude.{⊤, ℕ, ◌+◌, ◌==◌, List, length, Option, Some, None, Result, Ok, Err, nat_lt, string_bytes, if◌then◌else◌}
+use Rattle.std.specs.Prelude.{⊤, ℕ, ◌+◌, ◌==◌, List, length, Option, Some, None, Result, Ok, Err, nat_lt, string_bytes}
+use Rattle.std.specs.Prelude.{if◌then◌else◌}
 use Rattle.std.specs.Option.{ok_or}
 use Rattle.minidump_bytes.specs.declared.endian.Endian.{Endian}
 use Rattle.minidump_bytes.specs.Layout.{Layout}
@@ -10,7 +11,11 @@ use Rattle.minidump_format.specs.declared.error.Error.TheVariants.{StreamReadFai
 use Rattle.minidump_format.specs.declared.format.mac.MINIDUMP_MAC_CRASH_INFO_RECORD.{MINIDUMP_MAC_CRASH_INFO_RECORD}
 use Rattle.minidump_format.specs.declared.format.mac.MINIDUMP_MAC_CRASH_INFO_RECORD_4.{MINIDUMP_MAC_CRASH_INFO_RECORD_4}
 use Rattle.minidump_format.specs.declared.format.mac.MINIDUMP_MAC_CRASH_INFO_RECORD_5.{MINIDUMP_MAC_CRASH_INFO_RECORD_5}
+use Rattle.minidump_format.specs.declared.format.mac.MINIDUMP_MAC_CRASH_INFO_RECORD_STRINGS_4.{}
+use Rattle.minidump_format.specs.declared.format.mac.MINIDUMP_MAC_CRASH_INFO_RECORD_STRINGS_4.{}
 use Rattle.minidump_format.specs.declared.format.mac.MINIDUMP_MAC_CRASH_INFO_RECORD_STRINGS_4.{MINIDUMP_MAC_CRASH_INFO_RECORD_STRINGS_4}
+use Rattle.minidump_format.specs.declared.format.mac.MINIDUMP_MAC_CRASH_INFO_RECORD_STRINGS_5.{}
+use Rattle.minidump_format.specs.declared.format.mac.MINIDUMP_MAC_CRASH_INFO_RECORD_STRINGS_5.{}
 use Rattle.minidump_format.specs.declared.format.mac.MINIDUMP_MAC_CRASH_INFO_RECORD_STRINGS_5.{MINIDUMP_MAC_CRASH_INFO_RECORD_STRINGS_5}
 use Rattle.minidump_format.specs.Mac.{mac_record_4, mac_record_5}
 use Rattle.minidump_system.specs.OsParts.{unless_empty}

@@ -52,7 +52,8 @@ impl MinidumpAnnotation {
 
 /// Reads the value of an annotation by its type.
 impl DictionaryValue<MINIDUMP_ANNOTATION> for MinidumpAnnotation {
-    ghost use Rattle.minidump_records.specs.Crashpad.Annotations.{Annotation, annotation_in, annotation_of, annotation_reads};
+    ghost use Rattle.minidump_records.specs.Crashpad.Annotations.{Annotation, annotation_in, annotation_of};
+    ghost use Rattle.minidump_records.specs.Crashpad.Annotations.{annotation_reads};
 
     ghost Value = { Annotation };
 

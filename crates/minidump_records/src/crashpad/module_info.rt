@@ -58,7 +58,8 @@ impl MinidumpModuleCrashpadInfo {
 
 /// Reads the information on a module that a link of the list names.
 impl Part<MINIDUMP_MODULE_CRASHPAD_INFO_LINK> for MinidumpModuleCrashpadInfo {
-    ghost use Rattle.minidump_records.specs.Crashpad.{ModuleTakesMemory, Module, module_in, module_of, module_reads, most_of_link};
+    ghost use Rattle.minidump_records.specs.Crashpad.{ModuleTakesMemory, Module, module_in, module_of, module_reads};
+    ghost use Rattle.minidump_records.specs.Crashpad.{most_of_link};
 
     ghost Value = { Module };
 

@@ -5,7 +5,9 @@ ghost use Rattle.minidump_bytes.specs.Source.{bytes_of};
 ghost use Rattle.minidump_bytes.specs.Steps.{after};
 ghost use Rattle.minidump_format.specs.declared.error.Error.{Error};
 ghost use Rattle.minidump_format.specs.Answer.{Gives};
-ghost use Rattle.minidump_records.specs.Crashpad.Parts.{CountsEntry, list_of, list_at, list_reads, part_at, parts, tested_list, untested_list, WithinPart, WithinParts};
+ghost use Rattle.minidump_records.specs.Crashpad.Parts.{CountsEntry, WithinPart, WithinParts};
+ghost use Rattle.minidump_records.specs.Crashpad.Parts.{list_at, list_of, list_reads, part_at, parts};
+ghost use Rattle.minidump_records.specs.Crashpad.Parts.{tested_list, untested_list};
 
 use minidump_bytes::{Endian, Record, Source, Steps};
 use minidump_format::Error;

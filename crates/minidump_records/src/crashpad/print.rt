@@ -7,7 +7,9 @@ ghost use Rattle.minidump_format.specs.Text.{line_end};
 ghost use Rattle.minidump_records.specs.Crashpad.{Module, crashpad_info_of, module_of};
 ghost use Rattle.minidump_records.specs.Crashpad.Annotations.{annotation_of};
 ghost use Rattle.minidump_records.specs.Crashpad.Dictionary.{entries_of};
-ghost use Rattle.minidump_records.specs.Crashpad.Text.{annotation_text, crashpad_info_text, list_line, module_lines, module_text, object_line, objects_text, process_line, process_lines, process_text, simple_line};
+ghost use Rattle.minidump_records.specs.Crashpad.Text.{annotation_text, crashpad_info_text, list_line, module_lines};
+ghost use Rattle.minidump_records.specs.Crashpad.Text.{module_text, object_line, objects_text, process_line};
+ghost use Rattle.minidump_records.specs.Crashpad.Text.{process_lines, process_text, simple_line};
 
 use super::{MinidumpAnnotation, MinidumpCrashpadInfo, MinidumpModuleCrashpadInfo};
 use minidump_bytes::{Piece, Told, push_pieces};

@@ -2,7 +2,8 @@ ghost use Rattle.std.specs.Prelude.{◌≡◌, ◌++◌, OnOk, string_bytes};
 ghost use Rattle.std.specs.List.{flat_map};
 ghost use Rattle.std.specs.Option.{option_map};
 ghost use Rattle.minidump_format.specs.Print.{Prints};
-ghost use Rattle.minidump_records.specs.Handles.{fields_text, handle_data_of, handle_data_text, handle_of, handle_text, info_label, info_line, infos_text, names_text, no_info_line, or_null};
+ghost use Rattle.minidump_records.specs.Handles.{fields_text, handle_data_of, handle_data_text, handle_of, handle_text};
+ghost use Rattle.minidump_records.specs.Handles.{info_label, info_line, infos_text, names_text, no_info_line, or_null};
 ghost use Rattle.minidump_records.specs.Handles.ObjectChain.{information_text};
 
 use super::{MinidumpHandleDataStream, MinidumpHandleDescriptor, MinidumpHandleObjectInformation};

@@ -1,6 +1,8 @@
 ghost use Rattle.std.specs.Prelude.{◌≡◌};
 ghost use Rattle.std.specs.Option.{option_copied};
-ghost use Rattle.minidump_records.specs.Handles.Descriptor.{handle, type_name_rva, object_name_rva, attributes, granted_access, handle_count, pointer_count, object_info_rva};
+ghost use Rattle.minidump_records.specs.Handles.Descriptor.{handle, type_name_rva, object_name_rva, attributes};
+ghost use Rattle.minidump_records.specs.Handles.Descriptor.{granted_access, handle_count, pointer_count};
+ghost use Rattle.minidump_records.specs.Handles.Descriptor.{object_info_rva};
 ghost use Rattle.minidump_records.specs.Handles.{shared_fields};
 
 use minidump_format::format::{MINIDUMP_HANDLE_DESCRIPTOR, MINIDUMP_HANDLE_DESCRIPTOR_2, RVA};

@@ -4,7 +4,8 @@ ghost use Rattle.minidump_bytes.specs.LinuxOsStr.{text_lines};
 ghost use Rattle.minidump_format.specs.Print.{Prints};
 ghost use Rattle.minidump_format.specs.StreamType.{type_name};
 ghost use Rattle.minidump_records.specs.Linux.Pairs.{pairs_of};
-ghost use Rattle.minidump_records.specs.Linux.Text.{limit_line, linux_pairs_text, linux_proc_limits_text, name_line, pair_line};
+ghost use Rattle.minidump_records.specs.Linux.Text.{limit_line, linux_pairs_text, linux_proc_limits_text, name_line};
+ghost use Rattle.minidump_records.specs.Linux.Text.{pair_line};
 ghost use Rattle.minidump_records.specs.Linux.{linux_text_of};
 
 use super::files::ProcLimits;

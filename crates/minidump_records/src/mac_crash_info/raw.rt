@@ -1,7 +1,8 @@
 ghost use Rattle.std.specs.Prelude.{◌≡◌, IfOk, IsOkUnless, OnErr};
 ghost use Rattle.std.specs.Option.{option_copied};
 ghost use Rattle.minidump_system.specs.OsParts.{unless_empty};
-ghost use Rattle.minidump_records.specs.MacCrashInfo.Record.{HasTexts, abort_cause, dialog_mode, if_nonzero, mac_record_of, text_of, texts_4, texts_5, thread, version};
+ghost use Rattle.minidump_records.specs.MacCrashInfo.Record.{HasTexts, abort_cause, dialog_mode, if_nonzero};
+ghost use Rattle.minidump_records.specs.MacCrashInfo.Record.{mac_record_of, text_of, texts_4, texts_5, thread, version};
 
 use super::record::copy_texts;
 use minidump_format::Error;

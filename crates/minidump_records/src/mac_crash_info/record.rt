@@ -2,8 +2,10 @@ ghost use Rattle.std.specs.Prelude.{◌≡◌, ◌+◌, ◌≤◌, ⊤, Some, st
 ghost use Rattle.minidump_bytes.specs.Source.{bytes_of};
 ghost use Rattle.minidump_bytes.specs.Steps.{after};
 ghost use Rattle.minidump_format.specs.Answer.{Gives};
-ghost use Rattle.minidump_records.specs.MacCrashInfo.Record.{end_of_text, by_version, fixed_part, item_reads, text_at, texts_4, texts_5, texts_in, texts_of};
-ghost use Rattle.minidump_records.specs.MacCrashInfo.{record_after_version, located_record, located_version, record_if, stated_version};
+ghost use Rattle.minidump_records.specs.MacCrashInfo.Record.{end_of_text, by_version, fixed_part, item_reads, text_at};
+ghost use Rattle.minidump_records.specs.MacCrashInfo.Record.{texts_4, texts_5, texts_in, texts_of};
+ghost use Rattle.minidump_records.specs.MacCrashInfo.{record_after_version, located_record, located_version, record_if};
+ghost use Rattle.minidump_records.specs.MacCrashInfo.{stated_version};
 
 use super::RawMacCrashInfo;
 use minidump_bytes::{Endian, Record, Source, Steps};

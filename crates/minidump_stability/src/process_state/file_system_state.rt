@@ -14,6 +14,7 @@ pub struct PosixFileSystemState {
 }
 
 impl Message for PosixFileSystemState {
+    ghost use Rattle.minidump_stability.specs.declared.process_state.file_system_state.PosixFileSystemState.{};
     ghost use Rattle.minidump_stability.specs.declared.process_state.file_system_state.PosixFileSystemState.{PosixFileSystemState};
     ghost use Rattle.minidump_stability.specs.ReportRows.{no_posix_file_system_state, put_posix_file_system_state};
     ghost use Rattle.minidump_stability.specs.Fields.{none_within};
@@ -64,6 +65,7 @@ pub struct WindowsFileSystemState {
 }
 
 impl Message for WindowsFileSystemState {
+    ghost use Rattle.minidump_stability.specs.declared.process_state.file_system_state.WindowsFileSystemState.{};
     ghost use Rattle.minidump_stability.specs.declared.process_state.file_system_state.WindowsFileSystemState.{WindowsFileSystemState};
     ghost use Rattle.minidump_stability.specs.ReportRows.{no_windows_file_system_state, put_windows_file_system_state};
     ghost use Rattle.minidump_stability.specs.Fields.{none_within};
