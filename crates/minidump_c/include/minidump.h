@@ -15,8 +15,8 @@
  * Names and reasons are UTF-8; a report also has bytes of the dump as they are. A text that is cut may end within a
  * character. No zero is written after a text, and a name may hold zeros.
  *
- * Codes have no names of their own, so most reasons are numbers, as "unknown 0xc0000005". minidump_report_named and
- * minidump_crash take names from a text, such as a file of the folder names, or several of them one after another: with
+ * Codes have no names of their own, so most reasons are numbers, as "unknown 0xc0000005". minidump_report_named,
+ * minidump_crash and minidump_crash_json take names from a text, such as a file of the folder names, or several of them one after another: with
  * these it is "EXCEPTION_ACCESS_VIOLATION_READ".
  *
  * An end may be 2^64, which is 0 as a number: test `address - base < size`, not `address < base + size`.
@@ -82,9 +82,9 @@ uint32_t minidump_dir(const uint8_t *bytes, size_t len, uint8_t *out, size_t out
 uint32_t minidump_report(const uint8_t *bytes, size_t len, uint8_t *out, size_t out_len, size_t *size);
 
 /* The same with the names of codes of a text, which is read first. A line is a code, FAMILY NUMBER NAME with one space
- * between the parts; a comment, which begins with #; or empty. A line ends at a line feed, and none has a carriage return.
- * A FAMILY is one of those in the files of the folder names, and its numbers ascend; a NUMBER is decimal, or hexadecimal
- * after 0x. A text that breaks these rules has MINIDUMP_NOT_A_LINE or MINIDUMP_OUT_OF_ORDER, and the number of its first such line is written to
+ * between the parts; a comment, which begins with #; or empty. A line ends at a line feed; a carriage return may stand in
+ * comments alone. A FAMILY is one of those in the files of the folder names, and its numbers ascend strictly; a NUMBER is
+ * below 2^32, decimal, or hexadecimal after 0x; a NAME is UTF-8 without white space and #. A text that breaks these rules has MINIDUMP_NOT_A_LINE or MINIDUMP_OUT_OF_ORDER, and the number of its first such line is written to
  * *line, from 1 on; otherwise *line stays as it was. A text of 0 bytes lists no names. */
 uint32_t minidump_report_named(const uint8_t *bytes, size_t len, const uint8_t *names, size_t names_len, uint8_t *out,
                                size_t out_len, size_t *size, uint64_t *line);
@@ -175,7 +175,7 @@ enum minidump_trust {
 /* Why the last frame has no caller. */
 enum minidump_end {
     MINIDUMP_END_NO_MEMORY = 1,           /* the dump has no memory of the stack */
-    MINIDUMP_END_UNKNOWN_WIDTH = 2,       /* nor is the width of an address known */
+    MINIDUMP_END_UNKNOWN_WIDTH = 2,       /* the width of an address isn't known */
     MINIDUMP_END_NO_FRAME_POINTER = 3,    /* the frame pointer isn't known */
     MINIDUMP_END_ZERO_FRAME_POINTER = 4,  /* it is 0, as a thread's first function finds it */
     MINIDUMP_END_BELOW_STACK_POINTER = 5, /* it lies below the stack pointer */
@@ -221,7 +221,7 @@ struct minidump_facts {
     uint32_t memory_state;  /* enum minidump_state, of the memory that contains it */
     uint8_t has_address;    /* 0 where no exception counts, without a system, and for a signal that a process sent */
     uint8_t has_null_offset;
-    uint8_t is_canonical; /* 0 for an address of x86-64 whose bits 47 to 63 differ, else 1 */
+    uint8_t is_canonical; /* 0 for an address of x86-64 whose bits 47 to 63 differ, and where has_address is 0; else 1 */
     uint8_t has_module;
     uint8_t has_unloaded;
     uint8_t has_stack_of;
@@ -330,7 +330,8 @@ struct minidump_unloaded {
  * The registers are those of the exception's context on its thread, if it can be read, and else of the thread's own; one
  * that its writer cut after these registers, as LLDB does, is read only where there is no whole one. The stack is the
  * region of the dump that holds the stack pointer, and where none does the thread's own; callers follow by frame
- * pointers. Frames, registers and the address are those that whocrashed prints. */
+ * pointers. Frames, registers and the address are those that whocrashed prints without --symbols, with the same names of
+ * codes and --scan of this number. */
 uint32_t minidump_crash(const uint8_t *bytes, size_t len, const uint8_t *names, size_t names_len, size_t scan,
                         struct minidump_crash *crash, struct minidump_frame *frames, size_t frames_len,
                         struct minidump_register *registers, size_t registers_len, struct minidump_thread *threads,
@@ -339,8 +340,8 @@ uint32_t minidump_crash(const uint8_t *bytes, size_t len, const uint8_t *names, 
                         uint64_t *line);
 
 /* Reads the crash of a dump, as minidump_crash does, and writes its JSON text to the front of out, as far as it fits, and the
- * size of the whole text to *size: the line of `whocrashed --json` without the path of a file, with at most frames frames
- * of a thread. */
+ * size of the whole text to *size: the line of `whocrashed --json` without path, environment and line feed, with at most
+ * frames frames of a thread. With 0 frames it has no registers. */
 uint32_t minidump_crash_json(const uint8_t *bytes, size_t len, const uint8_t *names, size_t names_len, size_t scan,
                              size_t frames, uint8_t *out, size_t out_len, size_t *size, uint64_t *line);
 
