@@ -119,11 +119,22 @@ function labelOf(node) {
   return node.attributes["aria-label"] || node.textContent;
 }
 
-for (const node of named("button").filter((node) => /^Show all \d/.test(labelOf(node)))) node.listeners.click();
-
 // Returns the shapes of the drawing: what each is, where, and the text within.
 function shapes() {
   return places.space === undefined ? [] : places.space.children.map((node) => ({ name: node.name, ...node.attributes, text: node.textContent }));
+}
+
+// Chooses the last block, so that the rows about it take the place of the first ones, and then shows all rows of each table.
+const start = shapes();
+const block = (places.space?.children ?? []).filter((node) => node.attributes.role === "button").pop();
+if (block !== undefined) places.space.listeners.click({ target: guards.get(block) ?? block });
+const short = [];
+for (const node of named("button").filter((node) => /^Show all \d/.test(labelOf(node)))) {
+  const place = all(places.page).find((one) => one.children.includes(node));
+  const count = Number(labelOf(node).replace(/\D/g, ""));
+  node.listeners.click();
+  const body = all(place).find((one) => one.name === "tbody");
+  if (body !== undefined && body.children.length !== count) short.push("of " + count + " rows there are " + body.children.length);
 }
 
 const buttons = new Map(named("button").map((node) => [labelOf(node), node]));
@@ -145,7 +156,7 @@ function choose(target) {
   return [labelOf(target), places.choice.textContent, marked.map((node) => node.textContent)];
 }
 
-const answer = { start: shapes(), title: document.title, labels: [...buttons.keys()] };
+const answer = { start, short, title: document.title, labels: [...buttons.keys()] };
 answer.texts = Object.fromEntries(Object.keys(places).filter((id) => id !== "crash").map((id) => [id, places[id].textContent]));
 answer.nearer = press("Zoom in");
 answer.farther = press("Zoom out");

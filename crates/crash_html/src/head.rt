@@ -7,8 +7,8 @@ pub(crate) const HEAD: &str = r##"<!DOCTYPE html>
 <head>
 <meta charset="utf-8">
 <meta http-equiv="Content-Security-Policy" content="default-src 'none'; base-uri 'none'; form-action 'none';
- script-src 'sha256-TvSX3lFQTlqW8RxLG0tNes1msr4bWsx/dekBPM1J3mk=' 'sha256-fjEIP8xflYvoO0Ff1rAaUOmwx0nu4AGvZTfGVDuU1DU=';
- style-src 'sha256-aoeR9LaD96AOtcVRbJAiJRGYUpzF7xtkhJl/u0SmeoQ=' 'sha256-sPHmrOm/UuubxpQb78f/WQ8zZl3stHOYMbsktkrfNJQ='">
+ script-src 'sha256-SwMAT/EY4vZg8PALL6sHEQwsq6gVQJubnrvGqRWOBzI=' 'sha256-X+/w8YR1twGUSd/5k5QnMescKg3Zm/2+BFz21PUdv2c=';
+ style-src 'sha256-UMKlk+fFKUMtmu763h/Gk3516TILbbBWWPAedoxp/jo=' 'sha256-sPHmrOm/UuubxpQb78f/WQ8zZl3stHOYMbsktkrfNJQ='">
 <meta name="viewport" content="width=device-width, initial-scale=1">
 <title>Crash</title>
 <style>
@@ -55,11 +55,10 @@ button { background: var(--back); border: 1px solid var(--muted); border-radius:
 .stack { fill: #8f5a0c; }
 .module, .memory, .stack { cursor: pointer; stroke: var(--back); stroke-width: .5px; }
 #space .chosen { stroke: var(--fore); stroke-width: 3px; }
-.instruction, .address, .pointer { fill: none; stroke-width: 2px; }
-.instruction { stroke: #a33ad6; }
-.address { stroke: #dc3a3a; stroke-dasharray: 6 2; }
-.pointer { stroke: #1a8f9e; stroke-dasharray: 2 2; }
-@media (max-width: 60rem) {
+.instruction, .address, .pointer { fill: none; stroke: var(--fore); stroke-width: 2px; }
+.address { stroke-dasharray: 6 2; }
+.pointer { stroke-dasharray: 2 2; }
+@media (max-width: 60rem), print {
   thead { display: none; }
   table, tbody, tr, td { display: block; }
   tr { border-bottom: 1px solid var(--line); padding: .3rem 0; }
@@ -142,7 +141,7 @@ function put(place, value) {
 
 // Returns whether a text has a word that has to be broken.
 function isLong(value) {
-  return /[^\s\/\\_+-]{31}/.test(shown(value));
+  return /[^\s\/\\_+-]{31}|\S{128}/.test(shown(value));
 }
 
 // Makes an element with a text, in a class of the page's own.
@@ -242,6 +241,7 @@ class AddressMap {
 
   listen() {
     const choose = (event) => {
+      if (this.isDrawing) return;
       const block = this.blocks.find((one) => one.node === event.target);
       if (block !== undefined) this.choose(block.ranges.includes(this.range) ? this.range : block.ranges[0]);
     };
@@ -250,6 +250,8 @@ class AddressMap {
     this.svg.addEventListener("keydown", (event) => this.press(event));
     this.svg.addEventListener("wheel", (event) => this.turn(event), { passive: false });
     window.addEventListener("resize", () => this.draw());
+    window.addEventListener("beforeprint", () => this.svg.setAttribute("viewBox", "0 0 " + this.width + " " + this.svg.getAttribute("height")));
+    window.addEventListener("afterprint", () => this.svg.removeAttribute("viewBox"));
   }
 
   x(place) {
@@ -274,19 +276,24 @@ class AddressMap {
     this.nameBlocks();
     this.marks.forEach((mark, i) => this.drawMark(mark, i));
     this.showChoice();
-    if (focused) this.focus();
+    this.isDrawing = true;
+    if (focused) this.focus({ preventScroll: true });
+    this.isDrawing = false;
   }
 
-  // Draws the gaps, the axis, and the address where each stretch begins, if there is room for it.
+  // Draws the gaps, the axis, and the address where each stretch begins, if there is room for it. Of the gaps and the
+  // stretches that share a pixel some are left out.
   drawStretches() {
     let before = 0;
     let free = 0;
+    let drawn = -1;
     for (const stretch of this.stretches) {
       const left = this.x(stretch.place);
       const right = this.x(stretch.place + stretch.width);
-      if (this.isSeen(before, left)) this.drawGap(before, left);
+      if (left - before >= 0.25 && this.isSeen(before, left)) this.drawGap(before, left);
       before = right;
-      if (!this.isSeen(left, right)) continue;
+      if (!this.isSeen(left, right) || right - drawn < 1) continue;
+      drawn = right;
       const y = this.bottom;
       this.svg.appendChild(shape("line", { class: "axis", x1: Math.max(left, 0), y1: y, x2: Math.min(right, this.width), y2: y }));
       const from = Math.max(left, 2);
@@ -391,17 +398,17 @@ class AddressMap {
   }
 
   // Gives the focus to the block that is chosen, or else to the first.
-  focus() {
+  focus(how) {
     const block = (this.range === null ? null : this.blockOf(this.range)) ?? this.blocks[0];
-    if (block !== undefined) block.node.focus();
+    if (block !== undefined) block.node.focus(how);
   }
 
   // Chooses the next block of the lane, or the one before.
   step(by) {
     if (this.range === null) return;
     const block = this.blockOf(this.range);
-    const indices = block === null ? [this.range.index] : block.ranges.map((range) => range.index);
-    const next = this.lanes[this.range.lane][by < 0 ? Math.min(...indices) - 1 : Math.max(...indices) + 1];
+    const ranges = block === null ? [this.range] : block.ranges;
+    const next = this.lanes[this.range.lane][by < 0 ? ranges[0].index - 1 : ranges[ranges.length - 1].index + 1];
     if (next !== undefined) this.goTo(next);
   }
 
@@ -409,7 +416,9 @@ class AddressMap {
   climb(by) {
     const lane = this.range === null ? undefined : this.lanes[this.range.lane + by];
     if (lane === undefined) return;
-    this.goTo(lane.find((range) => range.start >= this.range.start) ?? lane[lane.length - 1]);
+    const { start, end } = this.range;
+    const far = (range) => (range.start >= end ? range.start - end + 1n : range.end <= start ? start - range.end + 1n : 0n);
+    this.goTo(lane.reduce((nearest, range) => (far(range) < far(nearest) ? range : nearest)));
   }
 
   // Chooses a range, moves it into view, and gives it the focus.
@@ -477,7 +486,7 @@ class AddressMap {
     const acts = {
       "+": () => this.zoom(0.5), "=": () => this.zoom(0.5), "-": () => this.zoom(2), Home: () => this.showAll(),
       ArrowLeft: () => this.step(-1), ArrowRight: () => this.step(1), ArrowUp: () => this.climb(-1), ArrowDown: () => this.climb(1),
-      Enter: () => this.showRange(this.range.start, this.range.end),
+      Enter: () => this.showRange(this.range.start, this.range.end), " ": () => this.showRange(this.range.start, this.range.end),
     };
     if (!Object.hasOwn(acts, event.key) || this.range === null || event.ctrlKey || event.metaKey || event.altKey) return;
     event.preventDefault();
@@ -488,7 +497,7 @@ class AddressMap {
   turn(event) {
     const box = this.svg.getBoundingClientRect();
     const about = this.from + ((event.clientX - box.left) / box.width) * (this.to - this.from);
-    if (this.zoom(event.deltaY < 0 ? 0.8 : 1.25, about)) event.preventDefault();
+    if (event.deltaY !== 0 && this.zoom(event.deltaY < 0 ? 0.8 : 1.25, about)) event.preventDefault();
   }
 }
 

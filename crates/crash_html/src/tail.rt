@@ -45,13 +45,14 @@ function folded(place, words, count, fill) {
   };
 }
 
-// Makes items, of many the first, and a button that makes the others.
-function some(place, items, make) {
+// Makes items, of many the first, and a button that clears these and makes all.
+function some(place, items, make, clear) {
   items.slice(0, MOST).forEach(make);
   if (items.length <= MOST) return;
   const all = button("Show all " + counted(items.length), () => {
     place.removeChild(all);
-    items.slice(MOST).forEach((item, i) => make(item, i + MOST));
+    clear();
+    items.forEach(make);
   });
   place.appendChild(all);
 }
@@ -72,9 +73,14 @@ class Table {
     const scroll = element("div", undefined, "scroll");
     scroll.appendChild(made);
     place.appendChild(scroll);
-    this.from = 0;
+    this.marked = null;
+    this.clear();
+    some(place, rows, (row, i) => this.add(row, i), () => this.clear());
+  }
+
+  clear() {
+    this.body.replaceChildren();
     this.lines = [];
-    some(place, rows, (row, i) => this.add(row, i));
   }
 
   head() {
@@ -90,7 +96,7 @@ class Table {
   }
 
   add(row, number) {
-    const line = element("tr", undefined, this.kinds[number]);
+    const line = element("tr", undefined, number === this.marked ? "marked" : this.kinds[number]);
     line.setAttribute("role", "row");
     for (const { name, kind, i } of this.columns) {
       const made = element("td", undefined, typeof row[i] !== "function" && isLong(row[i]) ? "long" : kind);
@@ -106,9 +112,9 @@ class Table {
 
   // Marks a row, and no other. Where it isn't there yet, the rows about it take the place of the others.
   mark(number) {
+    this.marked = number;
     if (this.lines[number] === undefined) {
-      this.body.replaceChildren();
-      this.lines = [];
+      this.clear();
       const from = number - (number % MOST);
       this.rows.slice(from, from + MOST).forEach((row, i) => this.add(row, from + i));
     }
@@ -296,7 +302,7 @@ function addDamage() {
   if (outside) lines.appendChild(element("li", "entries of the directory that lie outside the file: " + counted(outside)));
   const place = section("damage", "Can\u2019t be read", "damage");
   place.appendChild(lines);
-  some(place, [...damage.map(damageWords), ...unreadable.map(unreadableWords)], (words) => lines.appendChild(element("li", words)));
+  some(place, [...damage.map(damageWords), ...unreadable.map(unreadableWords)], (words) => lines.appendChild(element("li", words)), () => lines.replaceChildren());
 }
 
 function crashFacts() {
@@ -411,20 +417,19 @@ function addRows(place, frames, from) {
   return from + rows.length;
 }
 
-// Adds the frames of a thread, and its candidates under a heading that opens them.
+// Adds the frames of a thread, and the last ones that a scan found under a heading that opens them: its candidates, and by
+// symbols perhaps callers before these.
 function addFrames(place, of) {
   addThreadFacts(place, of);
   const frames = list(part(of, "frames"));
-  const isCandidate = (frame) => part(frame, "trust") === "scan";
-  const callers = frames.filter((frame) => !isCandidate(frame));
-  const candidates = frames.filter(isCandidate);
   const count = part(of, "frame_count") ?? frames.length;
+  const end = frames.findLastIndex((frame) => part(frame, "trust") !== "scan") + 1;
+  const callers = frames.slice(0, end);
+  const found = frames.slice(end);
   const next = addRows(place, callers, 0);
   if (frames.length === 0) place.appendChild(element("p", count === 0 ? "No frames." : "No frames are listed."));
   if (count > frames.length) place.appendChild(element("p", "Listed are " + counted(frames.length) + " of " + counted(count) + " frames and candidates."));
-  if (candidates.length > 0) {
-    folded(place, "Candidates: " + counted(candidates.length), candidates.length, (made) => addRows(made, candidates, next));
-  }
+  if (found.length > 0) folded(place, "Found by a scan: " + counted(found.length), found.length, (made) => addRows(made, found, next));
 }
 
 // Adds a list of registers, each with the module or the stack that its value lies in, if there are any.
@@ -467,9 +472,9 @@ function addThreads() {
   some(place, others, (other) => {
     const frames = list(part(other, "frames"));
     const first = part(frames[0], "function") ?? part(frames[0], "module");
-    const words = threadName(other) + (first === null ? "" : ", in " + last(first)) + ", frames: " + (part(other, "frame_count") ?? frames.length);
+    const words = threadName(other) + (first === null ? "" : ", in " + first) + ", frames and candidates: " + (part(other, "frame_count") ?? frames.length);
     folded(lines, words, frames.length, (made) => addFrames(made, other));
-  });
+  }, () => lines.replaceChildren());
 }
 
 // Returns words for what is known of the symbols of a module.
@@ -535,7 +540,7 @@ function addLists() {
   addExceptions();
   addMore("Annotations", [["Of", ""], ["Name", ""], ["Value", ""]], annotationsOf());
   const mac = ["module", "message", "message2", "signature_string", "backtrace", "thread", "dialog_mode", "abort_cause"];
-  const heads = ["Module", "Message", "Second message", "Signature", "Backtrace", "Thread", "Dialog mode", "Abort cause"];
+  const heads = ["Module", "Message", "Message 2", "Signature", "Backtrace", "Thread", "Dialog mode", "Abort cause"];
   addMore("macOS\u2019s crash information", heads.map((head) => [head, ""]), rowsOf(part(part(crash, "mac_crash_info"), "records"), mac));
   addMore("Kinds of handles", [["Type", ""], ["Handles", ""]], rowsOf(part(minidump, "handle_kinds"), ["type_name", "count"]));
   addMore("Handles", [["Handle", "code"], ["Type", ""], ["Name", ""]], rowsOf(part(crash, "handles"), ["handle", "type_name", "object_name"]));

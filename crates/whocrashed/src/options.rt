@@ -21,9 +21,9 @@ const EXAMPLES: &str = "Examples:
   curl -s https://example.org/crash.dmp | whocrashed -
   find dumps -name '*.dmp' -print0 | whocrashed --json --stdin-paths > crashes.jsonl
 
-The exit status is 0; 1 if a file can't be read, is too large or is no minidump, if a stream of it is there and can't be
-read, if the bytes of a context or a stack are outside the file, if memory ran out, or if the output failed; 2 if the
-arguments are refused. What is missing of symbols doesn't change it. If the pipe that is written to is closed, the run
+The exit status is 0; 1 if a file can't be read, is too large or is no minidump, if a FILE of names can't be read or has a
+malformed line (then no DUMP is read), if a stream is there and can't be read, if the bytes of a context or a stack are
+outside the file, if memory ran out, or if the output failed; 2 if the arguments are refused. What is missing of symbols doesn't change it. If the pipe that is written to is closed, the run
 ends with the status of the dumps before.";
 
 // What stands behind an option.
@@ -42,7 +42,7 @@ enum Takes {
 #[rattlefmt::skip]
 const OPTIONS: &[(&str, Takes, &str)] = &[
     ("symbols", Takes::Paths("DIR"),
-        "Name frames by Breakpad's symbol files in DIR; of several DIRs the first that has a file counts"),
+        "Find and name frames by Breakpad's symbol files, DIR/NAME/ID/NAME.sym; of several DIRs the first that has a file counts"),
     ("symbols-limit", Takes::Number("BYTES", GIBIBYTE), "Read no symbol file with more than BYTES"),
     ("names", Takes::Paths("FILE"),
         "Add the names of codes in FILE; of two names of a code that of the last FILE counts"),
@@ -53,7 +53,7 @@ const OPTIONS: &[(&str, Takes, &str)] = &[
     ("modules", Takes::Nothing, "Print all modules in the lines of text, those that were unloaded too"),
     ("handles", Takes::Nothing, "Print all handles in the lines of text"),
     ("environment", Takes::Nothing, "Print the variables of Linux's environment, which may hold secrets"),
-    ("frames", Takes::Number("N", "64"), "Print at most N frames of a thread, where N is 1 or more"),
+    ("frames", Takes::Number("N", "64"), "Print at most N frames of a thread, its candidates included, where N is 1 or more"),
     ("scan", Takes::Number("N", "16"), "Print at most N candidates among the words of a stack"),
     ("json", Takes::Nothing, "Print a line of JSON for each DUMP"),
     ("html", Takes::NothingBeside(&["json", "stdin-paths"]), "Print a page in HTML on the one DUMP"),
