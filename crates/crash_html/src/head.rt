@@ -7,7 +7,7 @@ pub(crate) const HEAD: &str = r##"<!DOCTYPE html>
 <head>
 <meta charset="utf-8">
 <meta http-equiv="Content-Security-Policy" content="default-src 'none'; base-uri 'none'; form-action 'none';
- script-src 'sha256-SwMAT/EY4vZg8PALL6sHEQwsq6gVQJubnrvGqRWOBzI=' 'sha256-X+/w8YR1twGUSd/5k5QnMescKg3Zm/2+BFz21PUdv2c=';
+ script-src 'sha256-SwMAT/EY4vZg8PALL6sHEQwsq6gVQJubnrvGqRWOBzI=' 'sha256-vQAOekP3a9DCLMqflPc5bnJYVAwR191DJob56ITcqpQ=';
  style-src 'sha256-UMKlk+fFKUMtmu763h/Gk3516TILbbBWWPAedoxp/jo=' 'sha256-sPHmrOm/UuubxpQb78f/WQ8zZl3stHOYMbsktkrfNJQ='">
 <meta name="viewport" content="width=device-width, initial-scale=1">
 <title>Crash</title>

@@ -417,19 +417,20 @@ function addRows(place, frames, from) {
   return from + rows.length;
 }
 
-// Adds the frames of a thread, and the last ones that a scan found under a heading that opens them: its candidates, and by
-// symbols perhaps callers before these.
+// Adds the frames of a thread, and its candidates under a heading that opens them.
 function addFrames(place, of) {
   addThreadFacts(place, of);
   const frames = list(part(of, "frames"));
   const count = part(of, "frame_count") ?? frames.length;
-  const end = frames.findLastIndex((frame) => part(frame, "trust") !== "scan") + 1;
+  const end = count - (part(of, "candidate_count") ?? 0);
   const callers = frames.slice(0, end);
-  const found = frames.slice(end);
+  const candidates = frames.slice(end);
   const next = addRows(place, callers, 0);
   if (frames.length === 0) place.appendChild(element("p", count === 0 ? "No frames." : "No frames are listed."));
   if (count > frames.length) place.appendChild(element("p", "Listed are " + counted(frames.length) + " of " + counted(count) + " frames and candidates."));
-  if (found.length > 0) folded(place, "Found by a scan: " + counted(found.length), found.length, (made) => addRows(made, found, next));
+  if (candidates.length > 0) {
+    folded(place, "Candidates: " + counted(candidates.length), candidates.length, (made) => addRows(made, candidates, next));
+  }
 }
 
 // Adds a list of registers, each with the module or the stack that its value lies in, if there are any.
@@ -566,7 +567,7 @@ const KNOWN = {
   "minidump.point": "instruction registers code words flags set_flags",
   "minidump.address": "address module module_offset null_offset is_canonical unloaded_module stack_of below_stack memory",
   crashing_thread: "threads_index thread_id thread_name is_listed last_error_value stack stack_memory context_problem short_context frame_count "
-    + "end frames",
+    + "candidate_count end frames",
   mac_crash_info: "num_records records",
   proc_limits: "limits",
 };

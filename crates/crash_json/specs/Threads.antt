@@ -50,6 +50,10 @@ end_name ZeroReturnAddress = codes "zero_return_address"
 abbrev pub frames_in : Option BacktraceValue → List NamedFrameValue
 frames_in walk = option_map_or all_frames walk []
 
+-- the candidates among these
+abbrev pub candidates_in : Option BacktraceValue → List NamedFrameValue
+candidates_in walk = option_map_or (λ w. w.candidates) walk []
+
 -- the members of a thread but its frames, by what is shown of it
 unfoldable pub thread_members : ThreadValue → Option BacktraceValue → List (List ℕ × Json)
 thread_members t walk =
@@ -58,6 +62,7 @@ thread_members t walk =
     ∷ (codes "is_listed", boolean t.is_listed)
     ∷ (codes "last_error_value", or_null string t.last_error)
     ∷ (codes "frame_count", count (length (frames_in walk)))
+    ∷ (codes "candidate_count", count (length (candidates_in walk)))
     ∷ (codes "stack", or_null range_json t.stack)
     ∷ (codes "stack_memory", or_null range_json t.stack_memory)
     ∷ (codes "context_problem", or_null string (option_map problem_name t.context_problem))

@@ -5,9 +5,9 @@ ghost use Rattle.crash.specs.Threads.{thread_value, threads_of};
 ghost use Rattle.crash_symbols.specs.Shown.{shown_frame_of, shown_of};
 ghost use Rattle.crash_json.specs.Tree.{Adds, Puts};
 ghost use Rattle.crash_json.specs.Members.{context_in, report_of};
-ghost use Rattle.crash_json.specs.Threads.{crashing_json, end_name, frames_in, index_members};
-ghost use Rattle.crash_json.specs.Threads.{pointer_end_name, registers_of, shown_context};
-ghost use Rattle.crash_json.specs.Threads.{thread_members};
+ghost use Rattle.crash_json.specs.Threads.{candidates_in, crashing_json, end_name, frames_in};
+ghost use Rattle.crash_json.specs.Threads.{index_members, pointer_end_name, registers_of};
+ghost use Rattle.crash_json.specs.Threads.{shown_context, thread_members};
 
 use crate::cause::problem_name;
 use crate::frames::EachFrame;
@@ -107,6 +107,7 @@ fn put_members(
         ("is_listed", ThreadMember::Scalar(Scalar::Flag(thread.is_listed))),
         ("last_error_value", ThreadMember::Scalar(Scalar::Optional(&thread.last_error))),
         ("frame_count", ThreadMember::Scalar(Scalar::Count(Some(frame_count(walk))))),
+        ("candidate_count", ThreadMember::Scalar(Scalar::Count(Some(candidate_count(walk))))),
         ("stack", ThreadMember::Range(thread.stack)),
         ("stack_memory", ThreadMember::Range(thread.stack_memory)),
         ("context_problem", ThreadMember::Scalar(Scalar::Text(problem))),
@@ -122,6 +123,16 @@ fn frame_count(walk: &Option<ShownWalk<'_, '_>>) -> usize
 {
     match walk {
         Some(walk) => walk.frames.len() + walk.candidates.len(),
+        None => 0,
+    }
+}
+
+// Returns how many candidates there are.
+fn candidate_count(walk: &Option<ShownWalk<'_, '_>>) -> usize
+    ensures { result ≡ length (candidates_in (option_map shown_of walk.now)) }
+{
+    match walk {
+        Some(walk) => walk.candidates.len(),
         None => 0,
     }
 }
