@@ -1,6 +1,6 @@
 -- Where and why a process crashed: its exceptions, which of them counts, and what is known of the
 -- address of the crash.
-use Rattle.std.specs.Prelude.{ℕ, List, map, Option, Some, None, Result, string_bytes}
+use Rattle.std.specs.Prelude.{ℕ, List, map, Option, Some, None, Result, if◌then◌else◌, string_bytes}
 use Rattle.std.specs.Option.{option_and_then, option_map}
 use Rattle.minidump.specs.declared.Error.{Error}
 use Rattle.minidump.specs.declared.format.MINIDUMP_EXCEPTION.{MINIDUMP_EXCEPTION}
@@ -20,7 +20,8 @@ use Rattle.crash.specs.Addresses.{facts_of}
 use Rattle.crash.specs.Contents.{ContentsValue}
 use Rattle.crash.specs.Contexts.{problem_in, system_of}
 use Rattle.crash.specs.Counting.{counted, counting}
-use Rattle.crash.specs.Records.{access_in, description_in, parameters_in, sender_in}
+use Rattle.crash.specs.Records.{access_in, description_in, lacks_address, parameters_in}
+use Rattle.crash.specs.Records.{sender_in}
 
 -- an exception: its thread, its code and flags, where it happened, where the record of another one
 -- is, its parameters, and LLDB's text over them; where the system is known, how memory was
@@ -78,10 +79,14 @@ counted_exception c = counted c.exceptions c.counts
 
 -- ---- exceptions
 
+-- the address of a crash on a system, unless the record lacks it
+abbrev pub address_on : System → MINIDUMP_EXCEPTION → Option ℕ
+address_on s r = if lacks_address s.os r then None else Some (crash_address s.os s.cpu r)
+
 -- the address of a crash, where the system is known. A signal that a process sent has none
 abbrev pub address_unless : Option Sender → Option System → MINIDUMP_EXCEPTION → Option ℕ
 address_unless (Some _) system r = None
-address_unless None system r = option_map (λ s. crash_address s.os s.cpu r) system
+address_unless None system r = option_and_then (λ s. address_on s r) system
 
 -- the same of an exception
 abbrev pub address_in : Option System → Exception → Option ℕ

@@ -156,3 +156,17 @@ sender_on _ cpu r = None
 -- the same where the system is known
 abbrev pub sender_in : Option System → MINIDUMP_EXCEPTION → Option Sender
 sender_in system r = option_and_then (λ s. sender_on s.os s.cpu r) system
+
+-- ---- an address that isn't known
+
+-- a signal is the kernel's own and has no address: SI_KERNEL, 0x80, whose `si_addr` is 0. So are those of
+-- a general protection, as for an address that isn't canonical, and of x86's `int3`
+abbrev pub is_of_kernel : MINIDUMP_EXCEPTION → Bool
+is_of_kernel r =
+    is_signal r.exception_code && r.exception_flags == 0x80 && r.exception_address == 0
+
+-- the record of an exception on an operating system has no address of a crash
+abbrev pub lacks_address : Os → MINIDUMP_EXCEPTION → Bool
+lacks_address Linux r = is_of_kernel r
+lacks_address Android r = is_of_kernel r
+lacks_address _ r = false

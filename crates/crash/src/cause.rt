@@ -2,8 +2,9 @@ ghost use Rattle.std.specs.Prelude.{◌≡◌, IfOk, IsOkUnless, map, string_byt
 ghost use Rattle.std.specs.Option.{option_copied, option_map};
 ghost use Rattle.minidump.specs.Below.Contexts.Context.{map_ok};
 ghost use Rattle.minidump.specs.Promise.{exception_stream, system_info_stream};
-ghost use Rattle.crash.specs.Cause.{address_at, address_unless, cause_in, cause_of, exception_in};
-ghost use Rattle.crash.specs.Cause.{counted_exception, exception_of, exceptions_in, reason_in};
+ghost use Rattle.crash.specs.Cause.{address_at, address_on, address_unless, cause_in, cause_of};
+ghost use Rattle.crash.specs.Cause.{counted_exception, exception_in, exception_of, exceptions_in};
+ghost use Rattle.crash.specs.Cause.{reason_in};
 ghost use Rattle.crash.specs.Contents.{contents_of};
 ghost use Rattle.crash.specs.Contexts.{system_of};
 ghost use Rattle.crash.specs.Counting.{counted};
@@ -13,7 +14,9 @@ use crate::contents::Contents;
 use crate::contexts::{ContextProblem, problem_in};
 use crate::counting::counting;
 use crate::each::{MakeItem, make_items};
-use crate::records::{Access, Sender, access_of, description_of, parameters_of, sender_of};
+use crate::records::{
+    Access, Sender, access_of, description_of, lacks_address, parameters_of, sender_of,
+};
 use minidump::{CodeNames, Error, MinidumpException, MinidumpSystemInfo};
 use std::alloc::Global;
 
@@ -26,8 +29,8 @@ pub struct CrashCause {
     /// The index in `exceptions` of the one that counts: the last that can be read and whose code
     /// isn't 0, else the last that can be read, and `None` if none can be.
     pub counts: Option<usize>,
-    /// What is known of the address of the crash, or `None` if no exception counts, or without
-    /// system information.
+    /// What is known of the address of the crash, or `None` if no exception counts, or the one that
+    /// counts has no address.
     pub address: Option<AddressFacts>,
 }
 
@@ -73,8 +76,9 @@ pub struct CrashException {
     /// range: that is taken for the address of an access.
     pub sender: Option<Sender>,
     /// The address of the crash: the one that was accessed where the record has it, else that of
-    /// the record, in as many bits as a pointer has. `None` without system information, and for a
-    /// signal that a process sent.
+    /// the record, in as many bits as a pointer has. `None` without system information, for a signal
+    /// that a process sent, and on Linux and Android for one that the kernel sent without an address,
+    /// by SI_KERNEL, as for an access to an address that isn't canonical.
     pub address: Option<u64>,
     /// The reason of the crash in words, or `None` without system information.
     pub reason: Option<String>,
@@ -200,8 +204,20 @@ fn address_unless(
         exception.now.raw.exception_record }
 {
     match (sender, system) {
-        (None, Some(system)) => Some(exception.get_crash_address(system.os, system.cpu)),
+        (None, Some(system)) => address_on(exception, system),
         _ => None,
+    }
+}
+
+// Returns the address of the crash on a system, unless the record lacks it.
+fn address_on(exception: &MinidumpException<'_>, system: &MinidumpSystemInfo) -> Option<u64>
+    ensures { result ≡ address_on (system_info_stream.value system.now)
+        exception.now.raw.exception_record }
+{
+    if lacks_address(system.os, &exception.raw.exception_record) {
+        None
+    } else {
+        Some(exception.get_crash_address(system.os, system.cpu))
     }
 }
 

@@ -4,7 +4,8 @@ ghost use Rattle.std.specs.Option.{option_copied, option_map, option_map_or};
 ghost use Rattle.minidump.specs.Promise.{system_info_stream};
 ghost use Rattle.crash.specs.Records.{access_in, access_of_number, access_on, description_in};
 ghost use Rattle.crash.specs.Records.{has_both_ids, is_process, parameter_bytes, text_unless_empty};
-ghost use Rattle.crash.specs.Records.{is_low_access, is_sent, is_signal};
+ghost use Rattle.crash.specs.Records.{is_low_access, is_of_kernel, is_sent, is_signal};
+ghost use Rattle.crash.specs.Records.{lacks_address};
 ghost use Rattle.crash.specs.Records.{parameters_in, sender_at, sender_by, sender_if_sent, sender_in};
 ghost use Rattle.crash.specs.Records.{sender_on, sender_with, signal_code, signal_code_name};
 
@@ -35,6 +36,8 @@ const SI_USER: u32 = 0;
 const SI_QUEUE: u32 = 0xffff_ffff;
 
 const SI_TKILL: u32 = 0xffff_fffa;
+
+const SI_KERNEL: u32 = 0x80;
 
 /// How memory was accessed.
 #[derive(Clone, Copy, Debug, PartialEq, Eq)]
@@ -165,6 +168,23 @@ fn access_of_number(number: u64) -> Option<Access>
         8 => Some(Access::Execute),
         _ => None,
     }
+}
+
+// Tells whether the record of an exception has no address of a crash.
+pub(crate) fn lacks_address(os: Os, raw: &MINIDUMP_EXCEPTION) -> bool
+    ensures { result ≡ lacks_address os raw.now }
+{
+    match os {
+        Os::Linux | Os::Android => is_of_kernel(raw),
+        _ => false,
+    }
+}
+
+// Tells whether a signal is the kernel's own and has no address.
+fn is_of_kernel(raw: &MINIDUMP_EXCEPTION) -> bool
+    ensures { result ≡ is_of_kernel raw.now }
+{
+    is_signal(raw.exception_code) && raw.exception_flags == SI_KERNEL && raw.exception_address == 0
 }
 
 // Returns the process that sent the signal, if one did.
