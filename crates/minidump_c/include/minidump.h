@@ -219,7 +219,7 @@ struct minidump_facts {
     size_t stack_of;        /* the index of the last thread whose stack, as the dump's list has it, contains it */
     size_t below_stack;     /* the index of the last thread whose stack begins above it, by at most 4,096 bytes */
     uint32_t memory_state;  /* enum minidump_state, of the memory that contains it */
-    uint8_t has_address;    /* 0 where no exception counts, without a system, and for a signal that a process sent */
+    uint8_t has_address;    /* 0 where no exception counts, without a system, for a signal that a process sent, and one of Linux's kernel without one */
     uint8_t has_null_offset;
     uint8_t is_canonical; /* 0 for an address of x86-64 whose bits 47 to 63 differ, and where has_address is 0; else 1 */
     uint8_t has_module;
