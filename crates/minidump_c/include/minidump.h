@@ -16,8 +16,8 @@
  * character. No zero is written after a text, and a name may hold zeros.
  *
  * Codes have no names of their own, so most reasons are numbers, as "unknown 0xc0000005". minidump_report_named,
- * minidump_crash and minidump_crash_json take names from a text, such as a file of the folder names, or several of them one after another: with
- * these it is "EXCEPTION_ACCESS_VIOLATION_READ".
+ * minidump_crash and minidump_crash_json take names from a text, such as a file of the folder names, or several of them
+ * one after another: with these it is "EXCEPTION_ACCESS_VIOLATION_READ".
  *
  * An end may be 2^64, which is 0 as a number: test `address - base < size`, not `address < base + size`.
  *
@@ -84,8 +84,9 @@ uint32_t minidump_report(const uint8_t *bytes, size_t len, uint8_t *out, size_t 
 /* The same with the names of codes of a text, which is read first. A line is a code, FAMILY NUMBER NAME with one space
  * between the parts; a comment, which begins with #; or empty. A line ends at a line feed; a carriage return may stand in
  * comments alone. A FAMILY is one of those in the files of the folder names, and its numbers ascend strictly; a NUMBER is
- * below 2^32, decimal, or hexadecimal after 0x; a NAME is UTF-8 without white space and #. A text that breaks these rules has MINIDUMP_NOT_A_LINE or MINIDUMP_OUT_OF_ORDER, and the number of its first such line is written to
- * *line, from 1 on; otherwise *line stays as it was. A text of 0 bytes lists no names. */
+ * below 2^32, decimal, or hexadecimal after 0x; a NAME is UTF-8 without white space and #. A text that breaks
+ * these rules has MINIDUMP_NOT_A_LINE or MINIDUMP_OUT_OF_ORDER, and the number of its first such line is written to *line,
+ * from 1 on; otherwise *line stays as it was. A text of 0 bytes lists no names. */
 uint32_t minidump_report_named(const uint8_t *bytes, size_t len, const uint8_t *names, size_t names_len, uint8_t *out,
                                size_t out_len, size_t *size, uint64_t *line);
 
@@ -219,7 +220,8 @@ struct minidump_facts {
     size_t stack_of;        /* the index of the last thread whose stack, as the dump's list has it, contains it */
     size_t below_stack;     /* the index of the last thread whose stack begins above it, by at most 4,096 bytes */
     uint32_t memory_state;  /* enum minidump_state, of the memory that contains it */
-    uint8_t has_address;    /* 0 where no exception counts, without a system, for a signal that a process sent, and one of Linux's kernel without one */
+    uint8_t has_address;    /* 0 where no exception counts, without a system, for a signal that a process sent, and for one of
+                             * Linux's kernel that has no address */
     uint8_t has_null_offset;
     uint8_t is_canonical; /* 0 for an address of x86-64 whose bits 47 to 63 differ, and where has_address is 0; else 1 */
     uint8_t has_module;
@@ -267,7 +269,8 @@ struct minidump_crash {
 
 /* A frame of a stack. */
 struct minidump_frame {
-    uint64_t address;           /* by which it is looked up: for a return address the one below it, within the call; bit 0 of ARM's is cleared first */
+    uint64_t address;           /* by which it is looked up: for a return address the one below it, within the call;
+                                 * on ARM of 32 bits bit 0 of the return address is cleared first */
     uint64_t instruction;       /* of the context, or else the return address of the frame before */
     uint64_t stack_pointer;     /* where no context has it, the address after the return address */
     uint64_t frame_pointer;     /* 0 if it isn't known */
