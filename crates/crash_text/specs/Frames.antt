@@ -148,11 +148,16 @@ end_text (Walk NoCode) = codes "return address in no module"
 end_text NoReturnRule = codes "no rule for the return address"
 end_text ZeroReturnAddress = codes "return address of 0"
 
+-- the line of the number of candidates, which follow the last caller, where there are any
+unfoldable pub candidate_lines : ℕ → List (List ℕ)
+candidate_lines count = if nat_lt 0 count
+    then concat (codes "    candidates: " ∷ decimal count ∷ []) ∷ [] else []
+
 -- what comes after the frames of a thread whose frames are all printed: how many more there are,
--- and the end of its walk
+-- the end of its walk, and how many of all of them are candidates
 unfoldable pub rest_lines : TextLimits → BacktraceValue → List (List ℕ)
 rest_lines limits w = hidden_lines limits.frames (length (all_frames w))
-    ++ concat (codes "    end: " ∷ end_text w.end ∷ []) ∷ []
+    ++ (concat (codes "    end: " ∷ end_text w.end ∷ []) ∷ candidate_lines (length w.candidates))
 
 -- what is found in the stack of a thread
 abbrev pub walk_lines : PageValue → Bool → BacktraceValue → List (List ℕ)

@@ -1,9 +1,9 @@
 ghost use Rattle.std.specs.Prelude.{◌≡◌, [], ◌∷◌, ◌++◌, IfOk, OnOk, map, take};
 ghost use Rattle.crash.specs.Modules.{loaded_of};
 ghost use Rattle.crash_symbols.specs.Shown.{shown_frame_of, shown_of};
-ghost use Rattle.crash_text.specs.Frames.{each_entry, end_text, entry_line, entry_of};
-ghost use Rattle.crash_text.specs.Frames.{hidden_lines, printed_address, printed_frames};
-ghost use Rattle.crash_text.specs.Frames.{rest_lines, walk_lines};
+ghost use Rattle.crash_text.specs.Frames.{candidate_lines, each_entry, end_text, entry_line};
+ghost use Rattle.crash_text.specs.Frames.{entry_of, hidden_lines, printed_address};
+ghost use Rattle.crash_text.specs.Frames.{printed_frames, rest_lines, walk_lines};
 ghost use Rattle.crash_text.specs.Lines.{Adds};
 ghost use Rattle.crash_text.specs.Page.{page_of};
 
@@ -133,14 +133,15 @@ fn printed_address(frame: &CrashFrame) -> u64
     }
 }
 
-// Appends how many frames are not printed, and why the walk ends.
+// Appends how many frames are not printed, why the walk ends, and how many candidates follow.
 #[tactic(auto, unfolding(crate::specs::Frames::rest_lines))]
 fn push_rest(out: &mut String, limits: &TextLimits, walk: &ShownWalk<'_, '_>) -> Added
     ensures { Adds out.old out.new (rest_lines limits.now (shown_of walk.now)) result }
 {
     let count = walk.frames.len() + walk.candidates.len();
     push_hidden(out, limits.frames, count)?;
-    push_line(out, &[Words("    end: "), Words(end_text(walk.end))])
+    push_line(out, &[Words("    end: "), Words(end_text(walk.end))])?;
+    push_candidates(out, walk.candidates.len())
 }
 
 // Appends how many frames are not printed, if there are any.
@@ -151,6 +152,18 @@ fn push_hidden(out: &mut String, limit: usize, count: usize) -> Added
 {
     if limit < count {
         push_line(out, &[Words("    and "), Decimal((count - limit) as u64), Words(" more")])
+    } else {
+        Ok(())
+    }
+}
+
+// Appends how many candidates there are, if there are any.
+#[tactic(auto, unfolding(crate::specs::Frames::candidate_lines))]
+fn push_candidates(out: &mut String, count: usize) -> Added
+    ensures { Adds out.old out.new (candidate_lines count) result }
+{
+    if count > 0 {
+        push_line(out, &[Words("    candidates: "), Decimal(count as u64)])
     } else {
         Ok(())
     }
