@@ -1,7 +1,6 @@
 -- What is known of an address: where it lies among the modules, the stacks and the regions.
 use Rattle.std.specs.Prelude.{ℕ, ◌-◌, ◌^◌, ◌==◌, ◌&&◌, ◌||◌, nat_le, nat_lt, Bool, true, false, List, []}
 use Rattle.std.specs.Prelude.{Option, Some, None, is_some, unwrap_or, if◌then◌else◌}
-use Rattle.std.specs.List.{enumerate_from}
 use Rattle.std.specs.Option.{option_map, option_map_or}
 use Rattle.std.specs.Result.{result_ok}
 use Rattle.minidump.specs.declared.system_info.Cpu.{Cpu}
@@ -11,10 +10,10 @@ use Rattle.minidump.specs.Below.Index.Lookup.{has_address, looked_up}
 use Rattle.minidump.specs.Below.MemoryLists.UnifiedInfo.{InfoRegion, OfInfo, OfMaps, info_regions}
 use Rattle.minidump.specs.Below.MemoryLists.UnifiedInfo.{range_of_info_region, region_is_executable}
 use Rattle.minidump.specs.Below.MemoryLists.UnifiedInfo.{region_is_readable, region_is_writable}
-use Rattle.minidump.specs.Below.Modules.Module.{ModuleValue, range_of_module}
 use Rattle.minidump.specs.Below.Modules.UnloadedModule.{UnloadedValue, range_of_unloaded}
 use Rattle.minidump.specs.Below.System.System.{System}
 use Rattle.minidump.specs.Thread.{Thread}
+use Rattle.stack_walk.specs.Lookups.{module_place}
 use Rattle.crash.specs.declared.addresses.AddressFacts.{AddressFacts}
 use Rattle.crash.specs.declared.addresses.AddressMemory.{AddressMemory}
 use Rattle.crash.specs.declared.addresses.RegionState.{RegionState}
@@ -24,11 +23,6 @@ use Rattle.crash.specs.Contents.{ContentsValue}
 use Rattle.crash.specs.Contexts.{system_of}
 use Rattle.crash.specs.Last.{last_index}
 use Rattle.crash.specs.Stacks.{named_stack}
-
--- the index of the kept module that contains an address, and the offset in that
-abbrev pub module_place : List ModuleValue → ℕ → Option (ℕ × ℕ)
-module_place modules address = option_map (λ p. (p.0, address - p.1.raw.base_of_image))
-    (looked_up (λ p. range_of_module p.1) (enumerate_from 0 modules) address)
 
 -- the address, where it is in the 64 KiB from 0 on, which no process maps
 abbrev pub null_offset : ℕ → Option ℕ

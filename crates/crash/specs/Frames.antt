@@ -16,14 +16,13 @@ use Rattle.stack_walk.specs.declared.end.WalkEnd.{WalkEnd}
 use Rattle.stack_walk.specs.declared.frame.StackFrame.{StackFrame}
 use Rattle.stack_walk.specs.declared.stack.Stack.{Stack}
 use Rattle.stack_walk.specs.Frames.{StackValue, stack_of, stack_pointer_in}
-use Rattle.stack_walk.specs.Lookups.{lookup_address}
+use Rattle.stack_walk.specs.Lookups.{lookup_address, module_place}
 use Rattle.stack_walk.specs.Threads.{ProcessValue, stack_in, thread_stack}
 use Rattle.stack_walk.specs.Walk as stack
 use Rattle.stack_walk.specs.Walk.{WalkValue}
 use Rattle.crash.specs.declared.contexts.FoundContext.{FoundContext}
 use Rattle.crash.specs.declared.frames.CrashFrame.{CrashFrame}
 use Rattle.crash.specs.declared.frames.CrashWalk.{CrashWalk}
-use Rattle.crash.specs.Addresses.{module_place}
 use Rattle.crash.specs.Contents.{ContentsValue}
 use Rattle.crash.specs.Contexts.{context_at, found_in}
 

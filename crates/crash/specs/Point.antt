@@ -13,19 +13,20 @@ use Rattle.minidump.specs.Below.Modules.Module.{ModuleValue}
 use Rattle.minidump.specs.Below.System.Cpu.{pointer_bytes}
 use Rattle.stack_walk.specs.Frames.{StackValue, instruction_pointer_in, pointer_at, stack_bytes}
 use Rattle.stack_walk.specs.Frames.{stack_pointer_in}
+use Rattle.stack_walk.specs.Lookups.{module_place}
 use Rattle.crash.specs.declared.addresses.AddressFacts.{AddressFacts}
 use Rattle.crash.specs.declared.point.CrashPoint.{CrashPoint}
 use Rattle.crash.specs.declared.point.StackWord.{StackWord}
-use Rattle.crash.specs.Addresses.{facts_of, module_place}
+use Rattle.crash.specs.Addresses.{facts_of}
 use Rattle.crash.specs.Contents.{ContentsValue}
 use Rattle.crash.specs.Contexts.{register_values}
 use Rattle.crash.specs.Frames.{memory_at}
 use Rattle.crash.specs.SetFlags.{set_flags}
 use Rattle.crash.specs.Threads.{walked_at}
 
--- what is known of an instruction pointer and of each register that may hold an address, by its name,
--- the bytes from the instruction pointer on, the words from the stack pointer up, the flags and the segments by their
--- names, and the names of the flags that are set
+-- what is known of an instruction pointer and of each register that may hold an address, by its
+-- name, the bytes from the instruction pointer on, the words from the stack pointer up, the flags
+-- and the segments by their names, and the names of the flags that are set
 pub record PointValue : Type 0 where
   pub instruction : AddressFacts
   pub registers : List (List ℕ × AddressFacts)

@@ -40,10 +40,7 @@ impl CrashCause {
         ensures { option_map exception_of (option_copied result)
             ≡ counted_exception (cause_of self.now) }
     {
-        match self.exceptions.get(self.counts?)? {
-            Ok(exception) => Some(exception),
-            Err(_) => None,
-        }
+        counted(self.exceptions.as_slice(), self.counts)
     }
 }
 
@@ -68,12 +65,15 @@ pub struct CrashException {
     pub description: Option<String>,
     /// How memory was accessed, if it is an access violation or an in-page error of Windows.
     pub access: Option<Access>,
-    /// The process that sent the signal, if one did, on Linux and Android. The address of the record
-    /// then has the ids of the process, in the low 32 bits, and of its user, in the high ones, or is
-    /// 0, and the first two parameters have them. By SI_USER, which is 0 as where there is no
-    /// `si_code`, a signal has no sender if the id isn't from 1 to 0x3fffff, as that of a process
-    /// outside of the receiver's namespace; and if it is SIGSEGV or SIGBUS and the address is in that
-    /// range: that is taken for the address of an access.
+    /// The process that sent the signal, if one did, on Linux and Android. The address of the
+    /// record then has the id of the process in the low 32 bits and that of its user in the high
+    /// ones. If it is 0, the first two parameters have them, or of SIGPOLL and SIGSYS the first
+    /// alone, unless a pointer has 32 bits.
+    ///
+    /// SI_USER is 0, as the flags are where there is no `si_code`. By SI_USER a signal therefore
+    /// has no sender if the id of the process isn't from 1 to 0x3fffff, as of one outside of the
+    /// receiver's namespace, or if the signal is SIGSEGV or SIGBUS and the address of the record is
+    /// in that range: that is taken for the address of an access.
     pub sender: Option<Sender>,
     /// The address of the crash: the one that was accessed where the record has it, else that of
     /// the record, in as many bits as a pointer has. `None` without system information, for a signal

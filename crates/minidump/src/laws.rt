@@ -10,8 +10,6 @@ ghost use Rattle.minidump_format.specs.declared.format.header.MINIDUMP_DIRECTORY
 ghost use Rattle.minidump_format.specs.Guid.{guid_text};
 ghost use Rattle.minidump_format.specs.Header.{located};
 ghost use Rattle.minidump_format.specs.declared.format.memory.MINIDUMP_MEMORY_DESCRIPTOR.{MINIDUMP_MEMORY_DESCRIPTOR};
-ghost use Rattle.minidump_format.specs.declared.format.memory.MINIDUMP_MEMORY_DESCRIPTOR64.{};
-ghost use Rattle.minidump_format.specs.declared.format.memory.MINIDUMP_MEMORY_DESCRIPTOR64.{};
 ghost use Rattle.minidump_format.specs.declared.format.memory.MINIDUMP_MEMORY_DESCRIPTOR64.{MINIDUMP_MEMORY_DESCRIPTOR64};
 ghost use Rattle.minidump_format.specs.declared.format.thread.MINIDUMP_THREAD_INFO.{MINIDUMP_THREAD_INFO};
 ghost use Rattle.minidump_index.specs.Lookup.{IsLookedUp, looked_up};
@@ -36,8 +34,6 @@ ghost use Rattle.minidump_modules.specs.DebugId.{breakpad_text, debug_id_text};
 ghost use Rattle.minidump_modules.specs.Module.{ModuleValue, module_of, range_of_module};
 ghost use Rattle.minidump_modules.specs.ModuleList.{modules_of};
 ghost use Rattle.minidump_modules.specs.UnloadedModule.{UnloadedValue, unloaded_of};
-ghost use Rattle.minidump_records.specs.declared.handles.data_stream.MinidumpHandleDataStream.{};
-ghost use Rattle.minidump_records.specs.declared.handles.data_stream.MinidumpHandleDataStream.{};
 ghost use Rattle.minidump_records.specs.declared.handles.data_stream.MinidumpHandleDataStream.{MinidumpHandleDataStream};
 ghost use Rattle.minidump_records.specs.declared.mac_crash_info.MinidumpMacCrashInfo.{MinidumpMacCrashInfo};
 ghost use Rattle.minidump_records.specs.declared.thread_info.MinidumpThreadInfoList.{MinidumpThreadInfoList};
@@ -141,10 +137,10 @@ pub fn last_entry_decides_the_bytes()
         → raw_stream e.stream_type d ≡ bytes_of_span (located d.file e.location) }
 {}
 
-/// The last entry of a type decides what `get_stream` returns: `answer`, what the type makes of the
-/// bytes at the entry's location, or `StreamReadFailure` where that isn't in the file; `memory`, it
-/// may run out of memory only where the type does for these bytes. `none`: if no entry has the
-/// type, it is `StreamNotFound`, and takes no memory.
+/// The last entry of a type decides what `get_stream` returns. `answer`: it is what the type makes
+/// of the bytes at the entry's location, or `StreamReadFailure` if they are not all in the file.
+/// `memory`: it may run out of memory exactly if the type may for these bytes. `none`: if no entry
+/// has the type, it is `StreamNotFound`, and takes no memory.
 pub fn last_entry_decides_the_stream<'a, S: MinidumpStream<'a>>()
     ensures answer { (d : Dump) (es later : List MINIDUMP_DIRECTORY) (e : MINIDUMP_DIRECTORY)
         → directory d.order d.file d.header ≡ es ++ (e ∷ later)

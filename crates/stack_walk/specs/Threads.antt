@@ -1,5 +1,5 @@
 -- The frames of a thread, by what a dump has of its process.
-use Rattle.std.specs.Prelude.{◌≡◌, ℕ, ◌+◌, ◌==◌, ◌&&◌, Bool, false, List, [], length, nat_le}
+use Rattle.std.specs.Prelude.{ℕ, ◌+◌, ◌==◌, ◌&&◌, Bool, false, List, [], length, nat_le}
 use Rattle.std.specs.Prelude.{nat_lt, Option, Some, None, if◌then◌else◌}
 use Rattle.std.specs.Option.{option_and_then, option_copied, option_map, option_map_or, option_or}
 use Rattle.minidump.specs.declared.MinidumpContextValidity.TheVariants.{All}
@@ -87,7 +87,3 @@ thread_walk_in p t limit = option_map (walk_by p t limit) (thread_context p t)
 -- the frames of a thread, and then the candidates: none without a context
 abbrev pub thread_frames_in : ProcessValue → Thread → ℕ → List StackFrame
 thread_frames_in p t limit = option_map_or all_frames (thread_walk_in p t limit) []
-
--- the same as a relation
-abbrev pub AreThreadFrames : ProcessValue → Thread → ℕ → List StackFrame → Type 0
-AreThreadFrames p t limit frames = frames ≡ thread_frames_in p t limit
