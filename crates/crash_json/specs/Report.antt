@@ -70,7 +70,11 @@ text_of limits path symbols c = print (json_tokens (json_of limits path symbols 
 
 -- ---- a file that is no dump
 
--- the line of a file by its path, and the word for why
+-- the line of a file that is no minidump: its path, and the word for why
 unfoldable pub error_json : List ℕ → List ℕ → Json
 error_json path status =
     object_of ((codes "path", string path) ∷ (codes "status", string status) ∷ [])
+
+-- the same as its text, with nothing between the tokens
+abbrev pub error_text : List ℕ → List ℕ → List ℕ
+error_text path status = print (json_tokens (error_json path status))

@@ -1,9 +1,7 @@
 ghost use Rattle.std.specs.Prelude.{◌≡◌, IfOk, IsOkUnless, Some};
 ghost use Rattle.std.specs.Str.{IsUtf8};
 ghost use Rattle.json.specs.Json.{document};
-ghost use Rattle.json.specs.Print.{print};
-ghost use Rattle.json.specs.Tree.{json_tokens};
-ghost use Rattle.crash_json.specs.Report.{error_json};
+ghost use Rattle.crash_json.specs.Report.{error_json, error_text};
 
 use crate::tree::{Members, Put, Scalar, ToJson, text_of};
 use json::Writer;
@@ -15,8 +13,7 @@ use std::alloc::Global;
 pub fn error_json(alloc: Global, path: &str, status: &str) -> Result<Vec<u8>, Error>
     ensures text { IfOk result
         (λ text. document text.items ≡ Some (error_json path.now status.now)) }
-    ensures compact { IfOk result
-        (λ text. text.items ≡ print (json_tokens (error_json path.now status.now))) }
+    ensures compact { IfOk result (λ text. text.items ≡ error_text path.now status.now) }
     ensures utf8 { IfOk result (λ text. IsUtf8 text.items) }
     ensures memory { IsOkUnless result Error.OutOfMemory }
 {

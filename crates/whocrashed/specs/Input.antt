@@ -1,5 +1,5 @@
 -- What is read of files and of standard input, and which dumps are read.
-use Rattle.std.specs.Prelude.{ℕ, ◌==◌, Bool, List, bytes_eq, codes, filter, length, map, nat_lt}
+use Rattle.std.specs.Prelude.{ℕ, ◌==◌, Bool, false, true, List, bytes_eq, codes, filter, length, map, nat_lt}
 use Rattle.std.specs.Prelude.{if◌then◌else◌, Option, Some, None}
 use Rattle.std.specs.List.{list_any, slice_split}
 use Rattle.std.specs.Str.{is_utf8}
@@ -22,6 +22,12 @@ abbrev pub asked_of : Dump → Asked
 asked_of dump.Input = Input
 asked_of (dump.File path) = File path.now
 asked_of (dump.Malformed path) = Malformed path.now
+
+-- its path is no text
+abbrev pub is_malformed : Asked → Bool
+is_malformed Input = false
+is_malformed (File path) = false
+is_malformed (Malformed path) = true
 
 -- what an argument asks for: `-` is standard input
 abbrev pub by_argument : List ℕ → Asked

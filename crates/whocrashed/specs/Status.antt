@@ -1,6 +1,10 @@
--- The status that what was read at a path gives the program.
+-- The status of the program: by what was read at a path, and by arguments that give no options.
 use Rattle.std.specs.Prelude.{ℕ, Option, Some, None, Result, Ok, Err}
 use Rattle.std.specs.Global.{Vec}
+use Rattle.std.specs.declared.io.ErrorKind.{ErrorKind as IoKind}
+use Rattle.std.specs.declared.io.ErrorKind.TheVariants as cause
+use Rattle.clap.specs.declared.error.kind.ErrorKind.{ErrorKind}
+use Rattle.clap.specs.declared.error.kind.ErrorKind.TheVariants as kind
 use Rattle.minidump.specs.Below.Reasons.Names.{Lists}
 use Rattle.crash.specs.Crash.{crash_in, status_of}
 
@@ -10,3 +14,17 @@ unfoldable pub status_read : {E : Type 0} → Lists → ℕ → Result (Option (
 status_read names scan (Ok (Some bytes)) = status_of (crash_in bytes.items names scan)
 status_read names scan (Ok None) = 1
 status_read names scan (Err error) = 1
+
+-- the status where the arguments can't be had for an error of this kind: 1 where memory ran out, and
+-- else 2, since one isn't UTF-8
+abbrev pub status_without : IoKind → ℕ
+status_without cause.OutOfMemory = 1
+status_without _ = 2
+
+-- the status after arguments for which clap has an error of this kind: 0 where they ask for the help
+-- or the version, 1 where memory ran out, and else 2, since they are refused
+abbrev pub status_of_kind : ErrorKind → ℕ
+status_of_kind kind.DisplayHelp = 0
+status_of_kind kind.DisplayVersion = 0
+status_of_kind kind.OutOfMemory = 1
+status_of_kind _ = 2

@@ -1,6 +1,6 @@
 -- What is known of a module's symbol file after it was looked for.
 use Rattle.std.specs.Prelude.{◌≡◌, ◌≢◌, ℕ, ◌<◌, ◌==◌, Bool, not, true, List, length, map, slice_get}
-use Rattle.std.specs.Prelude.{is_some, slice_index_or}
+use Rattle.std.specs.Prelude.{is_some, slice_index_or, ⊤}
 use Rattle.std.specs.Prelude.{Option, Some, None, Result, Ok, Err, if◌then◌else◌}
 use Rattle.std.specs.Borrow.{Bor}
 use Rattle.std.specs.declared.io.ErrorKind.{ErrorKind}
@@ -35,6 +35,12 @@ state_of_kind kind.NotADirectory = Missing
 state_of_kind kind.InvalidFilename = Missing
 state_of_kind kind.OutOfMemory = OutOfMemory
 state_of_kind _ = Corrupt
+
+-- why there is no symbol file in a text that was read: it is damaged only where the text is none
+abbrev pub IsNoFile : Option SymbolsValue → NoSymbols → Type 0
+IsNoFile symbols reason.Missing = ⊥
+IsNoFile symbols reason.Corrupt = symbols ≡ None
+IsNoFile symbols reason.OutOfMemory = ⊤
 
 -- what a symbol file says that was looked for
 abbrev pub value_read : Result (Bor SymbolFile) NoSymbols → Option SymbolsValue

@@ -24,8 +24,10 @@
 //!
 //! Status 1: a file can't be read, has more bytes than `--limit`, or is no dump, which is said on
 //! standard error, or in its line of JSON; or a stream, a context or a stack can't be read, in each
-//! of the three forms; or memory ran out. The other dumps are printed all the same. Status 1 also if
-//! the output failed, which ends the program. Status 2: the arguments are malformed, or one isn't
+//! of the three forms; or the list of paths can't be read or is too large; or memory ran out for a
+//! dump. The other dumps are printed all the same. Status 1 also if a file of `--names` can't be
+//! read or is malformed, and then no dump is read; and if memory ran out for anything else, or the
+//! output failed, which ends the program. Status 2: the arguments are malformed, or one isn't
 //! UTF-8. A closed pipe ends the program quietly, with the status of the dumps before.
 //!
 //! # What is proved
@@ -34,10 +36,13 @@
 //! order: `dumps_of`, `dumps_in`. What is read of a file is all of it, or nothing if it has more bytes
 //! than the limit: `read_to_limit`. The status of a dump is that of the crash that its bytes hold,
 //! whatever the form: `report_bytes`. It is 1 for a file that can't be read or is too large, and may
-//! be 1 for any where memory ran out: `report_read`. No status is above 2: `run`. A symbol file says
-//! what its text says, and stands only at modules whose file it is: `kept`, `SymbolCache::find`. What
-//! is made of a crash is its text, its JSON or its page, by the options and by such files: `form_of`.
-//! That it is what is printed is not proved.
+//! be 1 for any where memory ran out: `report_read`. Arguments that give no options have status 0 if
+//! they ask for the help or the version, 1 if memory ran out, and else 2: `answer`,
+//! `complain_of_arguments`. No status is above 2: `run`. A symbol file says what its text says, and
+//! stands only at modules whose file it is: `kept`, `SymbolCache::find`. What is made of a crash is
+//! its text, its JSON or its page, by the options and by such files: `form_of`. The line of JSON of a
+//! file that is no dump is its path and why: `error_line`. That these are what is printed is not
+//! proved.
 #![tactic(auto)]
 
 mod complain;
@@ -50,8 +55,8 @@ mod report;
 mod symbols;
 
 use std::alloc::AllocError;
-use std::env;
 use std::process::ExitCode;
+use std::{env, io};
 
 fn main(rt: HostRuntime) -> ExitCode {
     let args = match env::args(&rt) {
@@ -60,7 +65,8 @@ fn main(rt: HostRuntime) -> ExitCode {
     };
     let words: Result<Vec<String>, AllocError> = args.collect(rt.alloc());
     let Ok(words) = words else {
-        return ExitCode::FAILURE;
+        let error = io::Error::from(io::ErrorKind::OutOfMemory);
+        return ExitCode::from(program::complain_of_arguments(&rt, &error));
     };
     match words.as_slice() {
         [_name, words @ ..] => ExitCode::from(program::run(&rt, words)),

@@ -23,8 +23,8 @@ const EXAMPLES: &str = "Examples:
 
 The exit status is 0; 1 if a file can't be read, is too large or is no minidump, if a FILE of names can't be read or has a
 malformed line (then no DUMP is read), if a stream is there and can't be read, if the bytes of a context or a stack are
-outside the file, if memory ran out, or if the output failed; 2 if the arguments are refused. What is missing of symbols doesn't change it. If the pipe that is written to is closed, the run
-ends with the status of the dumps before.";
+outside the file, if memory ran out, or if the output failed; 2 if the arguments are refused. What is missing of symbols
+doesn't change it. If the pipe that is written to is closed, the run ends with the status of the dumps before.";
 
 // What stands behind an option.
 enum Takes {
@@ -81,6 +81,7 @@ pub(crate) enum Form {
 pub(crate) struct Options<'w> {
     pub(crate) form: Form,
     pub(crate) limits: TextLimits,
+    /// The most candidates of a stack.
     pub(crate) scan: usize,
     /// The files of names. Of two names of a code that of the later file counts.
     pub(crate) names: Vec<&'w str>,
@@ -95,22 +96,35 @@ pub(crate) struct Options<'w> {
     pub(crate) dumps: Vec<&'w str>,
     /// Whether the paths of further dumps stand on standard input.
     pub(crate) are_listed: bool,
-    /// The most bytes of a dump.
+    /// The most bytes of a dump, and of the list of paths.
     pub(crate) limit: usize,
 }
 
 impl<'w> Options<'w> {
-    // Reads the arguments, without the program's own name.
+    // Reads the arguments, without the program's own name. Returns clap's error if they are
+    // malformed or refused, and if they ask for the help or the version.
     pub(crate) fn read(alloc: Global, words: &'w [String]) -> Result<Options<'w>, Error>
         ensures { IfOk result (λ options. is_refused options.form options.limits.frames
             (map (λ p. p.now) options.dumps.items) options.are_listed ≡ false) }
     {
-        let mut command = command(alloc)?;
-        let options = options_in(alloc, &mut command, words)?;
-        match refusal(&options) {
-            Some((kind, words)) => Err(command.error(kind, words)?),
-            None => Ok(options),
-        }
+        read_by(alloc, &mut command(alloc)?, words)
+    }
+}
+
+// Reads the arguments by the command.
+fn read_by<'w>(
+    alloc: Global,
+    command: &mut Command<'w>,
+    words: &'w [String],
+) -> Result<Options<'w>, Error>
+    ensures asked { IfOk result (λ options. AreAskedFor command.old words.entry.now options) }
+    ensures accepted { IfOk result (λ options. is_refused options.form options.limits.frames
+        (map (λ p. p.now) options.dumps.items) options.are_listed ≡ false) }
+{
+    let options = options_in(alloc, command, words)?;
+    match refusal(&options) {
+        Some((kind, why)) => Err(command.error(kind, why)?),
+        None => Ok(options),
     }
 }
 

@@ -1,4 +1,7 @@
 ghost use Rattle.std.specs.Prelude.{◌≡◌, ◌<◌, ◌≤◌, ◌==◌, ◌&&◌, IfOk, length, not};
+ghost use Rattle.std.specs.IoError.{error_kind};
+ghost use Rattle.clap.specs.Words.{kind_of};
+ghost use Rattle.whocrashed.specs.Status.{status_of_kind, status_without};
 
 use crate::complain::{complain, complain_at_end, complain_of, say};
 use crate::input::{dumps_in, read_input};
@@ -15,8 +18,8 @@ use minidump_names::NameTable;
 use std::io;
 
 /// Runs the program with its arguments, without its own name, and returns the status: 0; 1 where a
-/// dump, a file or the output failed, or a stream that was wanted can't be read; 2 for arguments
-/// that are malformed. A pipe that is closed ends it quietly.
+/// dump, a file or the output failed, where something of a dump is there and can't be read, and
+/// where memory ran out; 2 for arguments that are refused. A pipe that is closed ends it quietly.
 pub(crate) fn run(rt: &HostRuntime, words: &[String]) -> u8
     ensures { result ≤ 2 }
 {
@@ -36,36 +39,56 @@ pub(crate) fn run(rt: &HostRuntime, words: &[String]) -> u8
 
 /// Prints why the arguments can't be had, and returns the status.
 pub(crate) fn complain_of_arguments(rt: &HostRuntime, error: &io::Error) -> u8
-    ensures { result ≤ 2 }
+    ensures { result ≡ status_without (error_kind error.now) }
 {
-    if error.kind() == io::ErrorKind::OutOfMemory {
+    let status = status_without(error.kind());
+    if status == 1 {
         complain_at_end(rt, error);
-        return 1;
+        return status;
     }
     match complain(rt, "whocrashed", "an argument isn't UTF-8") {
-        Ok(()) | Err(_) => 2,
+        Ok(()) | Err(_) => status,
+    }
+}
+
+// Returns the status if the arguments can't be had for an error of this kind.
+fn status_without(kind: io::ErrorKind) -> u8
+    ensures { result ≡ status_without kind }
+{
+    match kind {
+        io::ErrorKind::OutOfMemory => 1,
+        _ => 2,
     }
 }
 
 // Prints the help or the version that was asked for, or why the arguments are malformed. Returns
 // the status.
 fn answer(rt: &HostRuntime, error: &Error) -> io::Result<u8>
-    ensures { IfOk result (λ status. status ≤ 2) }
+    ensures status { IfOk result (λ status. status ≡ status_of_kind (kind_of error.now)) }
+    ensures bound { IfOk result (λ status. status ≤ 2) }
 {
     let mut text = String::new(rt.alloc());
     for line in format!(in rt.alloc(); "{error}")?.lines() {
         push_line(&mut text, &[Piece::Words(line)])?;
     }
-    if !error.use_stderr() {
-        print!(rt; "{text}")?;
-        return Ok(0);
-    }
-    say(rt, text.as_str());
-    Ok(if error.kind() == ErrorKind::OutOfMemory {
-        1
+    if error.use_stderr() {
+        say(rt, text.as_str());
     } else {
-        2
-    })
+        print!(rt; "{text}")?;
+    }
+    Ok(status_of_kind(error.kind()))
+}
+
+// Returns the status after arguments for which clap has an error of this kind.
+fn status_of_kind(kind: ErrorKind) -> u8
+    ensures status { result ≡ status_of_kind kind }
+    ensures bound { result ≤ 2 }
+{
+    match kind {
+        ErrorKind::DisplayHelp | ErrorKind::DisplayVersion => 0,
+        ErrorKind::OutOfMemory => 1,
+        _ => 2,
+    }
 }
 
 // Reports on the dumps, with the names that the options ask for. Returns the status.
@@ -161,8 +184,8 @@ fn read_list(reporter: &Reporter<'_, '_>) -> io::Result<Option<Vec<u8>>> {
     Ok(None)
 }
 
-// Prints how many dumps are done of how many, after each hundredth part of them and the last one.
-// `last` is the number of dumps before the last that is done.
+// Prints how many dumps are done of how many, after about each hundredth part of them and the last
+// one. `last` is the index of the dump that was done last.
 fn show_progress(rt: &HostRuntime, last: usize, all: usize) {
     let done = last.saturating_add(1);
     if done == all || done % (all / 100 + 1) == 0 {

@@ -1,5 +1,7 @@
-ghost use Rattle.std.specs.Prelude.{◌≡◌, ◌≢◌, ◌<◌, ◌⊎◌, IfOk, IsOk};
+ghost use Rattle.std.specs.Prelude.{◌≡◌, ◌≢◌, ◌<◌, ◌⊎◌, ◌++◌, [], ◌∷◌, IfOk, IsOk, true};
 ghost use Rattle.crash.specs.Crash.{crash_in, status_of};
+ghost use Rattle.crash_json.specs.Report.{error_text};
+ghost use Rattle.whocrashed.specs.Input.{asked_of, is_malformed};
 ghost use Rattle.whocrashed.specs.Status.{status_read};
 
 use crate::complain::{complain, complain_of, say};
@@ -24,7 +26,7 @@ pub(crate) struct Reporter<'l, 'n> {
     pub(crate) limits: TextLimits,
     pub(crate) scan: usize,
     pub(crate) form: Form,
-    // the most bytes of a dump
+    // the most bytes of a dump, and of the list of paths
     pub(crate) limit: usize,
     // whether it is the only argument, and no list of paths is read
     pub(crate) is_one: bool,
@@ -32,9 +34,12 @@ pub(crate) struct Reporter<'l, 'n> {
 
 impl Reporter<'_, '_> {
     /// Reports on a dump, and returns the status: that of the crash of its bytes, or 1 if it can't be
-    /// read or is too large. Running out of memory is a line, and ends nothing.
+    /// read or is too large. Running out of memory is a line, and ends nothing. A failure of the
+    /// output is an error.
     pub(crate) fn report(&self, dump: Dump<'_>, cache: &mut SymbolCache<'_>) -> io::Result<u8>
-        ensures { IfOk result (λ status. status < 2) }
+        ensures bound { IfOk result (λ status. status < 2) }
+        ensures malformed { is_malformed (asked_of dump.entry) ≡ true
+            → IfOk result (λ status. status ≡ 1) }
     {
         match dump {
             Dump::Input => self.report_read("-", read_input(self.rt, self.limit), cache),
@@ -89,9 +94,18 @@ impl Reporter<'_, '_> {
         if self.form == Form::Json {
             return self.print_error(path, Error::OutOfMemory.name());
         }
-        if complain_of(self.rt, path, error).is_err() {
-            say(self.rt, "whocrashed: Out of memory\n");
+        match complain_of(self.rt, path, error) {
+            Ok(()) => Ok(()),
+            Err(_) => self.print_no_memory(),
         }
+    }
+
+    // Prints that memory ran out, which takes none.
+    fn print_no_memory(&self) -> io::Result<()> {
+        if self.form == Form::Json {
+            return self.rt.write_all(NO_MEMORY.as_bytes());
+        }
+        say(self.rt, "whocrashed: Out of memory\n");
         Ok(())
     }
 
@@ -142,8 +156,22 @@ impl Reporter<'_, '_> {
         }
     }
 
-    // Reports that a path isn't UTF-8. Its other bytes are printed.
+    // Reports that a path isn't UTF-8. Running out of memory is a line, too.
     fn report_malformed(&self, path: &[u8]) -> io::Result<u8>
+        ensures { IfOk result (λ status. status ≡ 1) }
+    {
+        match self.report_lossy(path) {
+            Ok(status) => Ok(status),
+            Err(error) if error.kind() == io::ErrorKind::OutOfMemory => {
+                self.print_no_memory()?;
+                Ok(1)
+            }
+            Err(error) => Err(error),
+        }
+    }
+
+    // Reports that a path isn't UTF-8. It is printed with U+FFFD for what isn't.
+    fn report_lossy(&self, path: &[u8]) -> io::Result<u8>
         ensures { IfOk result (λ status. status ≡ 1) }
     {
         let path = String::from_utf8_lossy(self.rt.alloc(), path)?;
@@ -192,7 +220,10 @@ impl Reporter<'_, '_> {
     }
 
     // Makes the line of JSON of a file without a report.
-    fn error_line(&self, path: &str, status: &str) -> Result<Vec<u8>, Error> {
+    fn error_line(&self, path: &str, status: &str) -> Result<Vec<u8>, Error>
+        ensures { IfOk result (λ line. line.items
+            ≡ error_text path.now status.now ++ 0x0a ∷ []) }
+    {
         Ok(end_line(error_json(self.rt.alloc(), path, status)?)?)
     }
 }

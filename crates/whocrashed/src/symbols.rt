@@ -1,4 +1,4 @@
-ghost use Rattle.std.specs.Prelude.{◌≡◌, ◌<◌, ℕ, IfOk, None, Some, length, map, replicate};
+ghost use Rattle.std.specs.Prelude.{◌≡◌, ◌<◌, ℕ, IfErr, IfOk, None, Some, length, map, replicate};
 ghost use Rattle.std.specs.Prelude.{slice_index, true};
 ghost use Rattle.std.specs.List.{slice_set};
 ghost use Rattle.std.specs.Option.{option_map};
@@ -6,7 +6,8 @@ ghost use Rattle.breakpad_symbols.specs.SymbolFile.{symbols_in, symbols_of};
 ghost use Rattle.crash.specs.Modules.{loaded_of};
 ghost use Rattle.crash_symbols.specs.Modules.{is_of_module};
 ghost use Rattle.crash_symbols.specs.Symbols.{known_of};
-ghost use Rattle.whocrashed.specs.Symbols.{AreLoaded, Belong, IsAsked, has_dirs, of_module};
+ghost use Rattle.whocrashed.specs.Symbols.{AreLoaded, Belong, IsAsked, IsNoFile, has_dirs};
+ghost use Rattle.whocrashed.specs.Symbols.{of_module};
 ghost use Rattle.whocrashed.specs.Symbols.{state_of_kind, state_of_module, state_read, state_without};
 ghost use Rattle.whocrashed.specs.Symbols.{value_read};
 
@@ -23,9 +24,9 @@ use std::io;
 pub(crate) enum NoSymbols {
     /// There is none.
     Missing,
-    /// It can't be read, or is that of another module.
+    /// It can't be read, has more bytes than the limit, or is that of another module.
     Corrupt,
-    /// Memory ran out while it was read.
+    /// Memory ran out for it.
     OutOfMemory,
 }
 
@@ -40,13 +41,17 @@ pub(crate) struct SymbolCache<'l> {
     dirs: &'l [&'l str],
     // the most bytes of a file
     limit: usize,
-    // by their paths below a directory; those that are missing are left out
+    // by their paths below a directory; those that are missing are left out, and those for which
+    // memory ran out before they were read
     files: BTreeMap<String, Found>,
 }
 
 impl<'l> SymbolCache<'l> {
     /// Makes a cache without files.
-    pub(crate) fn new(rt: &'l HostRuntime, dirs: &'l [&'l str], limit: usize) -> SymbolCache<'l> {
+    pub(crate) fn new(rt: &'l HostRuntime, dirs: &'l [&'l str], limit: usize) -> SymbolCache<'l>
+        ensures dirs { result.dirs.now ≡ dirs.now }
+        ensures limit { result.limit ≡ limit }
+    {
         SymbolCache {
             rt,
             dirs,
@@ -62,9 +67,10 @@ impl<'l> SymbolCache<'l> {
         !self.dirs.is_empty()
     }
 
-    /// Looks for the symbol files of modules, by their indices, and puts what is found in its place, so
-    /// that none of these modules stays unwanted. If each file that is known is its module's, each is
-    /// afterwards; if exactly the known ones are loaded by the states, so they are afterwards.
+    /// Looks for the symbol files of the modules with these indices, and puts what is found into
+    /// `symbols`. Afterwards none of these modules is `Unwanted`. If before each known file is that
+    /// of its module, so it is afterwards. If before exactly the modules with a known file are
+    /// `Loaded`, so they are afterwards.
     pub(crate) fn find(
         &mut self,
         modules: &[CrashModule],
@@ -108,53 +114,52 @@ impl<'l> SymbolCache<'l> {
         }
     }
 
-    // Returns the symbol file that has this path below a directory.
+    // Returns the symbol file that has this path below a directory. One that is missing, or for which
+    // memory ran out before it was read, is looked for again the next time.
     fn file_at(&mut self, path: String) -> Found {
         if let Some(found) = self.files.get(path.as_str()) {
             return *found;
         }
-        let found = self.read(path.as_str());
-        if is_missing(found) {
-            return found;
-        }
+        let found = match self.read(path.as_str()) {
+            Ok(text) => kept(self.rt.alloc(), text.leak()),
+            Err(NoSymbols::Corrupt) => Err(NoSymbols::Corrupt),
+            Err(reason) => return Err(reason),
+        };
         match self.files.insert(path, found) {
             Ok(_) => found,
             Err(_) => Err(NoSymbols::OutOfMemory),
         }
     }
 
-    // Reads the symbol file that has this path below the first directory that has one.
-    fn read(&self, path: &str) -> Found {
+    // Reads the file that has this path below the first directory that has one.
+    fn read(&self, path: &str) -> Result<Vec<u8>, NoSymbols> {
         for dir in self.dirs {
-            let found = self.read_in(*dir, path);
-            if !is_missing(found) {
-                return found;
+            match self.read_in(*dir, path) {
+                Ok(text) => return Ok(text),
+                Err(NoSymbols::Missing) => (),
+                Err(reason) => return Err(reason),
             }
         }
         Err(NoSymbols::Missing)
     }
 
-    // Reads the symbol file that has this path below a directory.
-    fn read_in(&self, dir: &str, path: &str) -> Found {
+    // Reads the file that has this path below a directory.
+    fn read_in(&self, dir: &str, path: &str) -> Result<Vec<u8>, NoSymbols> {
         let Ok(path) = format!(in self.rt.alloc(); "{dir}/{path}") else {
             return Err(NoSymbols::OutOfMemory);
         };
         match read_file(self.rt, path.as_str(), self.limit) {
-            Ok(Some(text)) => kept(self.rt.alloc(), text.leak()),
+            Ok(Some(text)) => Ok(text),
             Ok(None) => Err(NoSymbols::Corrupt),
             Err(error) => Err(reason_of(error.kind())),
         }
     }
 }
 
-// Tells whether a file is missing.
-fn is_missing(found: Found) -> bool {
-    matches!(found, Err(NoSymbols::Missing))
-}
-
 // Reads a symbol file from a text that is kept.
 fn kept(alloc: Global, text: &'static [u8]) -> Found
-    ensures { IfOk result (λ file. Some (symbols_of file.now) ≡ symbols_in text.now) }
+    ensures means { IfOk result (λ file. Some (symbols_of file.now) ≡ symbols_in text.now) }
+    ensures why { IfErr result (IsNoFile (symbols_in text.now)) }
 {
     match SymbolFile::read(alloc, text) {
         Ok(file) => match Box::new(alloc, file) {
@@ -166,7 +171,7 @@ fn kept(alloc: Global, text: &'static [u8]) -> Found
     }
 }
 
-// Returns why a module has no symbol file, if its can't be read for an error of this kind.
+// Returns why a module has no symbol file, if opening or reading it has an error of this kind.
 fn reason_of(kind: io::ErrorKind) -> NoSymbols
     ensures { state_without result ≡ state_of_kind kind }
 {
@@ -196,7 +201,7 @@ fn of_module(found: Found, loaded: &CrashModule) -> Found
     }
 }
 
-/// Returns the symbols of so many modules, of which nothing is known.
+/// Makes the symbols of `count` modules, none of whose files was looked for.
 pub(crate) fn unknown(alloc: Global, count: usize) -> Result<Symbols<'static>, AllocError>
     ensures files { IfOk result (λ symbols. (known_of symbols).files ≡ replicate count None) }
     ensures states { IfOk result (λ symbols. (known_of symbols).states
