@@ -106,14 +106,19 @@ function named(name) {
   return all(places.page).filter((node) => node.name === name);
 }
 
-// Opens each part that is folded, also those within another.
 const opened = new Set();
-for (let closed = named("details"); closed.length > 0; closed = named("details").filter((node) => !opened.has(node))) {
-  for (const node of closed) {
-    opened.add(node);
-    if (node.listeners.toggle) node.listeners.toggle();
+
+// Opens each part that is folded, also those within another.
+function openAll() {
+  for (let closed = named("details"); closed.length > 0; closed = named("details").filter((node) => !opened.has(node))) {
+    for (const node of closed) {
+      opened.add(node);
+      if (node.listeners.toggle) node.listeners.toggle();
+    }
   }
 }
+
+openAll();
 
 function labelOf(node) {
   return node.attributes["aria-label"] || node.textContent;
@@ -124,7 +129,8 @@ function shapes() {
   return places.space === undefined ? [] : places.space.children.map((node) => ({ name: node.name, ...node.attributes, text: node.textContent }));
 }
 
-// Chooses the last block, so that the rows about it take the place of the first ones, and then shows all rows of each table.
+// Chooses the last block, so that the rows about it take the place of the first ones, and then shows all of each list, which has
+// to leave what is opened.
 const start = shapes();
 const block = (places.space?.children ?? []).filter((node) => node.attributes.role === "button").pop();
 if (block !== undefined) places.space.listeners.click({ target: guards.get(block) ?? block });
@@ -133,9 +139,13 @@ for (const node of named("button").filter((node) => /^Show all \d/.test(labelOf(
   const place = all(places.page).find((one) => one.children.includes(node));
   const count = Number(labelOf(node).replace(/\D/g, ""));
   node.listeners.click();
-  const body = all(place).find((one) => one.name === "tbody");
-  if (body !== undefined && body.children.length !== count) short.push("of " + count + " rows there are " + body.children.length);
+  const list = place.children.find((one) => one.name === "ul" || one.name === "div");
+  const rows = list.attributes.class === "scroll" ? all(list).find((one) => one.name === "tbody") : list;
+  if (rows.children.length !== count) short.push("of " + count + " rows there are " + rows.children.length);
 }
+const there = new Set(named("details"));
+if ([...opened].some((node) => !there.has(node))) short.push("what was opened is gone");
+openAll();
 
 const buttons = new Map(named("button").map((node) => [labelOf(node), node]));
 

@@ -1,5 +1,5 @@
-//! The page up to the JSON: its style, and the part of its script that draws the map. Its policy names the styles and the
-//! scripts by their hashes, which `.ci/page` compares.
+//! The page up to the JSON: its style, and the part of its script that draws the map. Its policy
+//! names the styles and the scripts by their hashes, which `.ci/page` compares.
 
 /// The text before the JSON.
 pub(crate) const HEAD: &str = r##"<!DOCTYPE html>
@@ -7,13 +7,15 @@ pub(crate) const HEAD: &str = r##"<!DOCTYPE html>
 <head>
 <meta charset="utf-8">
 <meta http-equiv="Content-Security-Policy" content="default-src 'none'; base-uri 'none'; form-action 'none';
- script-src 'sha256-SwMAT/EY4vZg8PALL6sHEQwsq6gVQJubnrvGqRWOBzI=' 'sha256-vQAOekP3a9DCLMqflPc5bnJYVAwR191DJob56ITcqpQ=';
- style-src 'sha256-UMKlk+fFKUMtmu763h/Gk3516TILbbBWWPAedoxp/jo=' 'sha256-sPHmrOm/UuubxpQb78f/WQ8zZl3stHOYMbsktkrfNJQ='">
+ script-src 'sha256-r1f57gpW1BgiuFOH8WpJ9rNPBkxsYQVQ1AYV1wHm0F4=' 'sha256-bdco4xR7Ic9d5+GvPn0ywi7wNf77G6HsMmvD8c368qY='
+ 'sha256-eagVdoFNM5UMJhnRxGta8xB1a+rE0aCaNcgi12SECME=';
+ style-src 'sha256-nS0B97NHYua8LfyB+0du0UNqCVg+2wVYGdZrz3ew5fk=' 'sha256-sPHmrOm/UuubxpQb78f/WQ8zZl3stHOYMbsktkrfNJQ='">
 <meta name="viewport" content="width=device-width, initial-scale=1">
 <title>Crash</title>
 <style>
 :root { --back: #fff; --fore: #1b1f24; --muted: #57606a; --line: #8c959f; --chosen: #fff1b8; --bad: #a40e26; }
-:root { background: var(--back); color: var(--fore); color-scheme: light dark; font: 15px/1.45 system-ui, sans-serif; }
+:root { background: var(--back); color: var(--fore); color-scheme: light dark; scrollbar-gutter: stable; }
+:root { font: 93.75%/1.45 system-ui, sans-serif; }
 @media (prefers-color-scheme: dark) {
   :root { --back: #14171a; --fore: #e6e8ea; --muted: #a9b1ba; --line: #6b747d; --chosen: #4a3d0a; --bad: #ff9b8f; }
 }
@@ -41,7 +43,7 @@ td { overflow-wrap: break-word; }
 .inline td { color: var(--muted); }
 .damage { border-left: .3rem solid var(--bad); padding-left: .8rem; }
 .damage h2 { color: var(--bad); margin-top: 1rem; }
-.marked { background: var(--chosen); }
+.marked { background: var(--chosen); outline: 1px solid var(--fore); }
 .tools { align-items: center; display: flex; flex-wrap: wrap; gap: .4rem .6rem; margin: .5rem 0; }
 button { background: var(--back); border: 1px solid var(--muted); border-radius: .25rem; color: inherit; cursor: pointer; font: inherit; padding: .1rem .6rem; }
 #space { border: 1px solid var(--line); box-sizing: border-box; display: block; width: 100%; }
@@ -55,7 +57,7 @@ button { background: var(--back); border: 1px solid var(--muted); border-radius:
 .stack { fill: #8f5a0c; }
 .module, .memory, .stack { cursor: pointer; stroke: var(--back); stroke-width: .5px; }
 #space .chosen { stroke: var(--fore); stroke-width: 3px; }
-.instruction, .address, .pointer { fill: none; stroke: var(--fore); stroke-width: 2px; }
+.instruction, .address, .pointer { fill: none; pointer-events: none; stroke: var(--fore); stroke-width: 2px; }
 .address { stroke-dasharray: 6 2; }
 .pointer { stroke-dasharray: 2 2; }
 @media (max-width: 60rem), print {
@@ -64,16 +66,24 @@ button { background: var(--back); border: 1px solid var(--muted); border-radius:
   tr { border-bottom: 1px solid var(--line); padding: .3rem 0; }
   td { border: 0; min-height: 1.45em; padding: 0 0 0 8rem; position: relative; }
   td:empty { display: none; }
-  td::before { color: var(--muted); content: attr(data-label); font: 15px/1.45 system-ui, sans-serif; left: 0; position: absolute; width: 7.5rem; }
+  .long { min-width: 0; }
+  td::before { color: var(--muted); content: attr(data-label); font: 1rem/1.45 system-ui, sans-serif; left: 0; position: absolute; width: 7.5rem; }
 }
 @media (max-width: 30rem) {
   dl { display: block; }
   dt { margin-top: .4rem; }
 }
+#crash.plain { display: block; font: 13px/1.6 ui-monospace, monospace; overflow-wrap: anywhere; white-space: pre-wrap; }
 </style>
 <noscript><style>
 #crash { display: block; font: 13px/1.6 ui-monospace, monospace; overflow-wrap: anywhere; white-space: pre-wrap; }
 </style></noscript>
+<script>
+// Shows the JSON itself where a script fails before all is shown.
+window.addEventListener("error", () => window.addEventListener("DOMContentLoaded", () => {
+  document.getElementById("crash").className = "plain";
+}));
+</script>
 <script>
 "use strict";
 // What the dump says is shown as text alone: no element, style or link is made of it.
@@ -124,13 +134,14 @@ function counted(n) {
   return String(n).replace(/\B(?=(\d{3})+$)/g, ",");
 }
 
+// Returns what a path ends with, behind its last `/` or `\`.
 function last(path) {
-  return shown(path).split(/[\/\\]/).pop();
+  return shown(path === null ? "" : String(path).split(/[\/\\]/).pop());
 }
 
 // Appends a text, which may be broken behind `/`, `\`, `-` and `_`, and behind `+` and `::`.
 function put(place, value) {
-  const pieces = shown(value).split(/(?<=[\/\\_+-]|::)(?=[^\/\\_+:-])/);
+  const pieces = shown(value).replace(/([\/\\_+-]|::)(?=[^\/\\_+:-])/g, "$1\0").split("\0");
   if (pieces[0] === "") return;
   const few = pieces.length <= 64 ? pieces : [pieces.join("")];
   few.forEach((piece, i) => {
@@ -249,9 +260,16 @@ class AddressMap {
     this.svg.addEventListener("focusin", choose);
     this.svg.addEventListener("keydown", (event) => this.press(event));
     this.svg.addEventListener("wheel", (event) => this.turn(event), { passive: false });
-    window.addEventListener("resize", () => this.draw());
+    window.addEventListener("resize", () => {
+      if (this.measured() !== this.width) this.draw();
+    });
     window.addEventListener("beforeprint", () => this.svg.setAttribute("viewBox", "0 0 " + this.width + " " + this.svg.getAttribute("height")));
     window.addEventListener("afterprint", () => this.svg.removeAttribute("viewBox"));
+  }
+
+  // Returns the width that the drawing has on the page, in pixels.
+  measured() {
+    return Math.round(this.svg.getBoundingClientRect().width) || 1000;
   }
 
   x(place) {
@@ -265,7 +283,7 @@ class AddressMap {
   // Draws what is in view. The block that has the focus keeps it.
   draw() {
     const focused = this.blocks.some((block) => block.node === document.activeElement);
-    this.width = Math.round(this.svg.getBoundingClientRect().width) || 1000;
+    this.width = this.measured();
     this.top = LINE * this.marks.length + SPACE;
     this.bottom = this.top + (BLOCK + SPACE) * this.lanes.length;
     this.svg.setAttribute("height", String(this.bottom + LINE + SPACE));
@@ -347,7 +365,8 @@ class AddressMap {
     const from = Math.max(block.left, 0) + 5;
     const end = from + widthOf(name);
     if (from < free || end > Math.min(block.right, this.width) - 5) return free;
-    this.svg.appendChild(shape("text", { class: "name", x: from, y: this.top + (BLOCK + SPACE) * block.lane + 20 }, name));
+    const y = this.top + (BLOCK + SPACE) * block.lane + 20;
+    this.svg.appendChild(shape("text", { class: "name", "aria-hidden": "true", x: from, y }, name));
     return end + SPACE;
   }
 
@@ -394,7 +413,9 @@ class AddressMap {
     document.getElementById("choice").textContent = ranges ? wordsOf(ranges) : "No block is chosen.";
     const first = this.stretches.find((stretch) => stretch.place + stretch.width > this.from) ?? this.stretches[0];
     const ends = [addressAt(this.stretches, Math.max(this.from, first.place)), addressAt(this.stretches, this.to)];
-    document.getElementById("view").textContent = "In view: " + ends.map(hex).join(" to ");
+    const view = document.getElementById("view");
+    const words = "In view: " + ends.map(hex).join(" to ");
+    if (view.textContent !== words) view.textContent = words;
   }
 
   // Gives the focus to the block that is chosen, or else to the first.
@@ -493,11 +514,12 @@ class AddressMap {
     acts[event.key]();
   }
 
-  // Zooms by the wheel. Where nothing is left to zoom, the page scrolls.
+  // Zooms by the wheel, by as much as it turns. Where nothing is left to zoom, the page scrolls.
   turn(event) {
     const box = this.svg.getBoundingClientRect();
     const about = this.from + ((event.clientX - box.left) / box.width) * (this.to - this.from);
-    if (event.deltaY !== 0 && this.zoom(event.deltaY < 0 ? 0.8 : 1.25, about)) event.preventDefault();
+    const steps = event.deltaMode === 0 ? Math.min(Math.max(event.deltaY / 100, -1), 1) : Math.sign(event.deltaY);
+    if (steps !== 0 && this.zoom(1.25 ** steps, about)) event.preventDefault();
   }
 }
 

@@ -6,7 +6,8 @@
 //! HTML, are written as escapes of JSON, as `\u003c`. In JSON they occur only within texts, so the
 //! value stays the same. The script shows what the JSON says as text, and makes no elements, styles
 //! or links of it. It lists the frames, with functions and lines where the JSON has them, and draws
-//! the address space. Without scripts, the page shows the JSON itself.
+//! the address space. Without scripts, the page shows the JSON itself, and also where one fails
+//! before all is shown.
 //!
 //! # Errors
 //!
@@ -32,7 +33,10 @@ use head::HEAD;
 use std::alloc::{AllocError, Global};
 use tail::TAIL;
 
-/// Returns the page of a crash, whose JSON is `json`.
+/// Makes the page of a crash, in HTML. `json` is the crash as JSON, which the page's script reads:
+/// the text that the crate `crash_json` makes.
+///
+/// Returns `AllocError` if an allocation fails.
 #[tactic(auto, using(crate::proofs::EmbedLemmas::embedded_inert), unfolding(crate::specs::Page::page_with))]
 pub fn page(alloc: Global, json: &str) -> Result<String, AllocError>
     ensures page { IfOk result (λ page. string_bytes page ≡ page_with json.now) }

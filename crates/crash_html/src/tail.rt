@@ -4,11 +4,13 @@
 pub(crate) const TAIL: &str = r##"</script>
 <script>
 "use strict";
-// The most rows that a list has before it is opened, and the most rows of folded lists that are made before they are.
+// The most rows that a list has before all are asked for, and the most rows of folded lists that are made before these
+// are opened.
 const MOST = 200;
 let ahead = 300;
 
-const crash = JSON.parse(document.getElementById("crash").textContent);
+const json = document.getElementById("crash").textContent;
+const crash = JSON.parse(json);
 const minidump = part(crash, "minidump");
 const thread = part(crash, "crashing_thread");
 const exceptions = list(part(minidump, "exceptions"));
@@ -26,7 +28,7 @@ function section(id, heading, kind) {
   return made;
 }
 
-// Makes a part under a heading that opens it, filled at once if it is small. Returns what opens it.
+// Makes a part under a heading that opens it, filled at once while `ahead` lasts. Returns what opens it.
 function folded(place, words, count, fill) {
   const made = element("details");
   made.appendChild(element("summary", words));
@@ -45,14 +47,17 @@ function folded(place, words, count, fill) {
   };
 }
 
-// Makes items, of many the first, and a button that clears these and makes all.
-function some(place, items, make, clear) {
+// Makes items, of many the first, and a button that makes the others: those from the number on that `clear` returns.
+function some(place, items, make, clear = () => MOST) {
   items.slice(0, MOST).forEach(make);
   if (items.length <= MOST) return;
   const all = button("Show all " + counted(items.length), () => {
     place.removeChild(all);
-    clear();
-    items.forEach(make);
+    const from = clear();
+    items.slice(from).forEach((item, i) => make(item, from + i));
+    // The button is gone, so the place takes the focus.
+    place.setAttribute("tabindex", "-1");
+    place.focus({ preventScroll: true });
   });
   place.appendChild(all);
 }
@@ -75,7 +80,10 @@ class Table {
     place.appendChild(scroll);
     this.marked = null;
     this.clear();
-    some(place, rows, (row, i) => this.add(row, i), () => this.clear());
+    some(place, rows, (row, i) => this.add(row, i), () => {
+      this.clear();
+      return 0;
+    });
   }
 
   clear() {
@@ -118,7 +126,7 @@ class Table {
       const from = number - (number % MOST);
       this.rows.slice(from, from + MOST).forEach((row, i) => this.add(row, from + i));
     }
-    this.lines.forEach((line, i) => line.setAttribute("class", i === number ? "marked" : ""));
+    this.lines.forEach((line, i) => line.setAttribute("class", i === number ? "marked" : this.kinds[i] ?? ""));
   }
 }
 
@@ -170,9 +178,21 @@ function firstFrame() {
   return list(part(thread, "frames"))[0] ?? null;
 }
 
-function threadName(thread) {
+// Returns the address of the instruction pointer, or null.
+function instructionPointer() {
+  return part(part(point, "instruction"), "address") ?? part(firstFrame(), "offset");
+}
+
+// Returns the id of a thread, or other words for it, and its name.
+function threadName(thread, id = part(thread, "thread_id")) {
   const name = part(thread, "thread_name");
-  return String(part(thread, "thread_id")) + (name === null || name === "" ? "" : " \u201c" + String(name) + "\u201d");
+  return String(id) + (name === null || name === "" ? "" : " \u201c" + String(name) + "\u201d");
+}
+
+// Returns the id of a thread, also in hexadecimal, and its name.
+function threadHeading(thread) {
+  const id = part(thread, "thread_id");
+  return threadName(thread, id === null ? id : id + " (" + hex(id) + ")");
 }
 
 // Returns the ends of a region, or null.
@@ -262,8 +282,9 @@ function parametersOf(exception) {
 function assertionWords() {
   const assertion = part(minidump, "assertion");
   if (assertion === null) return part(part(crash, "crash_info"), "assertion");
+  const kind = part(assertion, "kind");
   return joined([
-    joined([labelled("", part(assertion, "kind")) && "(" + part(assertion, "kind") + ")", part(assertion, "expression")], " "),
+    joined([kind === null ? null : "(" + kind + ")", part(assertion, "expression")], " "),
     labelled("function ", part(assertion, "function")),
     labelled("file ", part(assertion, "file")),
     labelled("line ", part(assertion, "line")),
@@ -298,11 +319,12 @@ function addDamage() {
   const unreadable = list(part(minidump, "unreadable_modules"));
   const outside = part(minidump, "entries_outside");
   if (damage.length === 0 && unreadable.length === 0 && !outside) return;
-  const lines = element("ul");
-  if (outside) lines.appendChild(element("li", "entries of the directory that lie outside the file: " + counted(outside)));
   const place = section("damage", "Can\u2019t be read", "damage");
+  const lines = element("ul");
   place.appendChild(lines);
-  some(place, [...damage.map(damageWords), ...unreadable.map(unreadableWords)], (words) => lines.appendChild(element("li", words)), () => lines.replaceChildren());
+  const words = [...damage.map(damageWords), ...unreadable.map(unreadableWords)];
+  if (outside) words.unshift("entries of the directory that lie outside the file: " + counted(outside));
+  some(place, words, (one) => lines.appendChild(element("li", one)));
 }
 
 function crashFacts() {
@@ -310,7 +332,7 @@ function crashFacts() {
   return [
     ["Reason", part(info, "type")],
     ["Address", addressWords(part(info, "address"), part(minidump, "address"))],
-    ["Signature", part(crash, "signature") ?? part(minidump, "signature")],
+    ["Signature", part(minidump, "signature")],
     ["Code", counting === null ? null : part(counting, "code") + " at " + part(counting, "exception_address")],
     ["Description", part(counting, "description")],
     ["Flags", unlessZero(part(counting, "flags"))],
@@ -320,11 +342,19 @@ function crashFacts() {
     ["Parameters", parametersOf(counting)],
     ["Assertion", assertionWords()],
     ["Thread", thread === null ? null : threadName(thread)],
-    ["Instruction pointer", addressWords(part(firstFrame(), "offset"), part(point, "instruction"))],
+    ["Instruction pointer", addressWords(instructionPointer(), part(point, "instruction"))],
     ["Bytes there", list(part(point, "code")).map((byte) => Number(byte).toString(16).padStart(2, "0")).join(" ")],
     ["Registers", labelled("of the context of the ", part(minidump, "registers_of"))],
     ["Exception\u2019s context", labelled("not used: ", part(counting, "context_problem"))],
   ];
+}
+
+// Returns the soft errors. Their numbers, of any size, stay as they are written, where the browser tells how.
+function softErrors() {
+  const asWritten = (_, value, context) => {
+    return typeof value === "number" && JSON.rawJSON && context?.source ? JSON.rawJSON(context.source) : value;
+  };
+  return part(crash, "soft_errors") === null ? null : part(JSON.parse(json, asWritten), "soft_errors");
 }
 
 function systemFacts() {
@@ -351,7 +381,7 @@ function systemFacts() {
     ["Boot arguments", part(crash, "mac_boot_args")],
     ["Crashpad\u2019s report", part(part(minidump, "crashpad"), "report_id")],
     ["Crashpad\u2019s client", part(part(minidump, "crashpad"), "client_id")],
-    ["Soft errors", part(crash, "soft_errors")],
+    ["Soft errors", softErrors()],
     ["Lines of the memory map", part(crash, "linux_memory_map_count")],
     ["Status", joined([part(crash, "status"), labelled("exit status ", part(minidump, "status"))], ", ")],
   ];
@@ -388,8 +418,7 @@ function sourceWords(place) {
 function functionWords(frame) {
   const name = part(frame, "function");
   if (name === null) return part(frame, "missing_symbols") === true ? "no symbols" : null;
-  const offset = part(frame, "function_offset");
-  return name + (offset === null ? "" : " + " + (typeof offset === "number" ? "0x" + offset.toString(16) : offset));
+  return joined([name, part(frame, "function_offset")], " + ");
 }
 
 const TRUST = { cfi: "call frame information", frame_pointer: "frame pointer" };
@@ -427,7 +456,10 @@ function addFrames(place, of) {
   const candidates = frames.slice(end);
   const next = addRows(place, callers, 0);
   if (frames.length === 0) place.appendChild(element("p", count === 0 ? "No frames." : "No frames are listed."));
-  if (count > frames.length) place.appendChild(element("p", "Listed are " + counted(frames.length) + " of " + counted(count) + " frames and candidates."));
+  if (count > frames.length) {
+    const listed = "Listed are " + counted(frames.length) + " of " + counted(count) + " frames and candidates";
+    place.appendChild(element("p", listed + "; candidates: " + counted(count - end) + "."));
+  }
   if (candidates.length > 0) {
     folded(place, "Candidates: " + counted(candidates.length), candidates.length, (made) => addRows(made, candidates, next));
   }
@@ -451,7 +483,7 @@ function addRegisters(place, heading, registers) {
 
 function addCrashed() {
   if (thread === null) return;
-  const place = section("crashed", "Crashing thread: " + threadName(thread));
+  const place = section("crashed", "Crashing thread: " + threadHeading(thread));
   addFrames(place, thread);
   addRegisters(place, "Registers", part(firstFrame(), "registers"));
   addRegisters(place, "Flags and segments", part(point, "flags"));
@@ -473,9 +505,10 @@ function addThreads() {
   some(place, others, (other) => {
     const frames = list(part(other, "frames"));
     const first = part(frames[0], "function") ?? part(frames[0], "module");
-    const words = threadName(other) + (first === null ? "" : ", in " + first) + ", frames and candidates: " + (part(other, "frame_count") ?? frames.length);
+    const count = part(other, "frame_count") ?? frames.length;
+    const words = threadHeading(other) + (first === null ? "" : ", in " + first) + ", frames and candidates: " + count;
     folded(lines, words, frames.length, (made) => addFrames(made, other));
-  }, () => lines.replaceChildren());
+  });
 }
 
 // Returns words for what is known of the symbols of a module.
@@ -559,7 +592,7 @@ function addLists() {
 // The members that have a place of their own on the page, by the object that they are of.
 const KNOWN = {
   "": "path status system_info crash_info main_module modules unloaded_modules pid thread_count threads crashing_thread lsb_release mac_crash_info "
-    + "mac_boot_args handles soft_errors linux_memory_map_count proc_limits minidump signature",
+    + "mac_boot_args handles soft_errors linux_memory_map_count proc_limits minidump",
   system_info: "os os_ver cpu_arch cpu_info cpu_count cpu_microcode_version",
   crash_info: "type address crashing_thread assertion",
   minidump: "written uptime status streams entries_outside memory damage address exceptions exception registers_of assertion crashpad signature "
@@ -599,11 +632,11 @@ function rangesOf() {
   return found.sort((a, b) => ascending(a.start, b.start));
 }
 
-// Returns the rights of the memory between two addresses, where it is known of one of them, or null.
+// Returns the rights of the memory between two addresses, where it is known of one of them, or an empty text.
 function rightsOf([start, end]) {
   const known = [
     ["crash address", part(part(crash, "crash_info"), "address"), part(minidump, "address")],
-    ["instruction pointer", part(firstFrame(), "offset"), part(point, "instruction")],
+    ["instruction pointer", instructionPointer(), part(point, "instruction")],
   ];
   const words = known.map(([name, text, facts]) => {
     const at = address(text);
@@ -613,11 +646,10 @@ function rightsOf([start, end]) {
 }
 
 function marksOf() {
-  const frame = firstFrame();
   return [
-    ["instruction", "instruction pointer", part(frame, "offset")],
+    ["instruction", "instruction pointer", instructionPointer()],
     ["address", "crash address", part(part(crash, "crash_info"), "address")],
-    ["pointer", "stack pointer", part(frame, "stack_pointer")],
+    ["pointer", "stack pointer", part(firstFrame(), "stack_pointer")],
   ].map(([kind, name, at]) => ({ kind, name, at: address(at) })).filter((mark) => mark.at !== null);
 }
 
@@ -656,7 +688,7 @@ function addMap(ranges, chosen) {
   const map = new AddressMap(space, ranges, marksOf(), chosen);
   addTools(place, map);
   place.appendChild(space);
-  for (const [id, live] of [["view", "off"], ["choice", "polite"]]) {
+  for (const [id, live] of [["view", "polite"], ["choice", "off"]]) {
     const line = element("p", "", id === "view" ? "note" : "");
     line.id = id;
     line.setAttribute("aria-live", live);
