@@ -28,7 +28,8 @@ pub record HaveMore (before after : RecordLists) (line : List ℕ) (lines : List
   pub cfi : HasMore cfi_of before.cfi.items after.cfi.items (cfi_in line lines)
   pub origins : HasMore name_of before.origins.items after.origins.items (origin_in line lines)
 
--- a line begins with the first letter of a keyword: `FILE`, `INLINE_ORIGIN`, `PUBLIC`, `STACK`
+-- a line begins with the first letter of a keyword: `FILE`, `FUNC`, `INLINE_ORIGIN`, `PUBLIC`,
+-- `STACK`
 abbrev pub may_be_record : List ℕ → Bool
 may_be_record [] = false
 may_be_record (b ∷ bytes) = b == 70 || b == 73 || b == 80 || b == 83

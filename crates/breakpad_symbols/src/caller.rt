@@ -6,7 +6,8 @@ use crate::{CfiRecord, UnwindState, evaluate};
 use std::alloc::{AllocError, Global};
 
 impl CfiRecord<'_> {
-    /// Returns the canonical frame address at an address: the stack pointer of the caller. Returns
+    /// Returns the canonical frame address, by the rule of `.cfa` at an address from the module's
+    /// base. It is the stack pointer of the caller, unless that has a rule of its own. Returns
     /// `None` if there is no rule, or its expression has no value.
     pub fn frame_address<S: UnwindState>(
         &self,
@@ -22,8 +23,10 @@ impl CfiRecord<'_> {
         evaluate(alloc, rule, state, None)
     }
 
-    /// Returns a register of the caller, or for `.ra` the return address into it. Returns `None` if
-    /// there is no rule, or its expression has no value.
+    /// Returns the value of a register in the caller, or for `.ra` the return address into it, by
+    /// its rule at an address from the module's base. `frame_address` is the canonical frame
+    /// address, for which `.cfa` stands in the rule. Returns `None` if there is no rule, or its
+    /// expression has no value.
     pub fn caller_register<S: UnwindState>(
         &self,
         alloc: Global,

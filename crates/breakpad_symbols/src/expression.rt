@@ -41,8 +41,9 @@ pub(crate) enum Operator {
     Align,
 }
 
-/// Returns the value of a rule's expression, or `None` if a word has no meaning there, or not one
-/// value is left. `frame_address` is the canonical frame address, where it is known.
+/// Returns the value of a rule's expression, which ends before the first word that ends with a
+/// colon. Returns `None` if a word has no meaning there, or if not exactly one value is left.
+/// `frame_address` is the canonical frame address, if it is known.
 pub fn evaluate<S: UnwindState>(
     alloc: Global,
     expression: LinuxOsStr<'_>,

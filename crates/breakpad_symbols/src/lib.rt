@@ -10,8 +10,8 @@
 //!   [`CfiRecord::caller_register`] evaluate them over the registers and the memory of an
 //!   [`UnwindState`].
 //!
-//! An offset is an address less its module's base. That of a caller is of the address below its return
-//! address, which is in the call.
+//! An offset is an address less its module's base, and so is each address in a symbol file. The
+//! offset of a caller is that of the address below its return address, which lies in the call.
 //!
 //!     let symbols = SymbolFile::read(alloc, text)?;
 //!     let function = symbols.function_at(offset, &mut Steps::new())?;
@@ -30,22 +30,23 @@
 //!     STACK CFI INIT address size rules
 //!     STACK CFI address rules                            changes the rules before it
 //!
-//! A line ends at a line feed, before which a carriage return may stand. One space is between fields,
-//! and the last one is the rest of the line; between the words of ranges and rules white space is.
-//! Addresses and sizes are hexadecimal digits of 64 bits, other numbers decimal ones of 32 bits. An
-//! INLINE line has at least one range. The next FUNC, PUBLIC or STACK line ends the records of a
-//! function, the next STACK CFI INIT line the changes of rules.
+//! A line ends at a line feed, before which a carriage return may stand. Fields are separated by
+//! one space, and the last one is the rest of the line; the words of ranges and rules are separated
+//! by white space. Addresses and sizes are hexadecimal numbers of 64 bits, other fields that are
+//! numbers decimal ones of 32 bits. An INLINE line has at least one range. The next FUNC, PUBLIC or
+//! STACK line ends the records of a function, the next STACK CFI INIT line the changes of rules.
 //!
-//! Rules are words: a register and a colon, and then its expression in postfix form, of decimal numbers,
-//! also negative ones, registers, `.cfa`, the operators `+ - * / % @`, and `^`, which reads the word at
-//! an address. STACK WIN lines aren't read.
+//! Rules are words: a register and a colon, and then its expression in postfix form, of decimal
+//! numbers as wide as an address, also negative ones, registers, `.cfa`, the operators
+//! `+ - * / % @`, and `^`, which reads the word at an address. STACK WIN lines aren't read.
 //!
 //! # Errors
 //!
-//! Reading returns `MissingModule` for a text that doesn't begin with a MODULE line, and `OutOfMemory`
-//! where an allocation fails. Malformed lines, and those of no known kind, are skipped:
-//! [`malformed_lines`] counts the malformed ones. A rule without a value gives `None`: where a word is
-//! unknown, an operand, a register or memory is missing, a divisor is 0, or not one value is left.
+//! Reading returns `MissingModule` for a text that doesn't begin with a MODULE line, and
+//! `OutOfMemory` if an allocation fails. Malformed lines, and those of no known kind, are skipped:
+//! [`malformed_lines`] counts the malformed ones. A rule has no value, and gives `None`, if a word
+//! is unknown, an operand, a register or memory is missing, a divisor is 0, or not exactly one
+//! value is left.
 //!
 //! # What is proved
 //!
@@ -63,9 +64,10 @@
 //!   `laws::expressions_are_trees`.
 //! - Malformed lines are counted: `malformed_lines`, by `is_malformed`.
 //!
-//! What isn't: that a lookup of a name or of a public symbol takes the time of a search by halves, and
-//! reading that of one pass over the text and of making the indices. `line_at`, `inline_at` and
-//! `inlines_at` read the lines of the function, `rule_at` the changes after the STACK CFI INIT line.
+//! What isn't: how long a call takes, but for the comparisons that `function_at` and `cfi_at`
+//! count. Reading passes over the text once, and makes the indices. A lookup of a name or of a
+//! public symbol is one in an ordered map. `line_at`, `inline_at` and `inlines_at` read the lines
+//! of the function, `rule_at` those after the STACK CFI INIT line.
 #![tactic(auto)]
 
 mod address_width;

@@ -25,8 +25,8 @@ use Rattle.crash.specs.Records.{sender_in}
 
 -- an exception: its thread, its code and flags, where it happened, where the record of another one
 -- is, its parameters, and LLDB's text over them; where the system is known, how memory was
--- accessed, who sent the signal, the address and the reason of the crash; and why its context isn't
--- used
+-- accessed, who sent the signal, the address and the reason of the crash; and why its context gives
+-- no registers
 pub record ExceptionValue : Type 0 where
   pub thread : ℕ
   pub code : ℕ
@@ -127,6 +127,7 @@ address_at c e = option_map (facts_of c) (option_and_then (λ e. e.address) e)
 
 -- ---- all of it
 
+-- the cause, by the exceptions and the index of the one that counts
 abbrev cause_by : ContentsValue → List (Result ExceptionValue Error) → Option ℕ → CauseValue
 cause_by c exceptions counts = record {
   exceptions = exceptions;

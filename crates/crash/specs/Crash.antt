@@ -47,6 +47,7 @@ abbrev pub damage_in : DirectoryValue → CauseValue → ThreadsValue → List D
 damage_in directory cause threads =
     damage_by directory.entries cause.exceptions threads.threads
 
+-- the crash of a dump, by its contents and by what is found in them
 abbrev crash_with : Dump → ContentsValue → DirectoryValue → CauseValue → ThreadsValue → CrashValue
 crash_with d c directory cause threads = record {
   contents = c;

@@ -41,8 +41,8 @@ pub record UnloadedModuleValue : Type 0 where
   pub file : List ℕ
   pub code_id : Option (List ℕ)
 
--- the modules, their indices in the order of their addresses, and the entries of their list that can't
--- be read, where these lose it
+-- the modules, their indices in the order of their addresses, the entries for which their list
+-- can't be read, and the modules that were unloaded
 pub record ModulesValue : Type 0 where
   pub loaded : List LoadedValue
   pub by_address : List ℕ

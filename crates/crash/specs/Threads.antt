@@ -29,8 +29,8 @@ use Rattle.crash.specs.Frames.{thread_walk, thread_walked}
 use Rattle.crash.specs.Last.{last_index}
 use Rattle.crash.specs.Stacks.{is_outside, named_stack, stack_memory}
 
--- a thread: its id, whether the list has it, its name, its registers and why its own context isn't
--- used, its stack, the memory of that and what is found in it, and its last error
+-- a thread: its id, whether the list has it, its name, its registers and why its own context gives
+-- none, its stack, the memory of that and what is found in it, and its last error
 pub record ThreadValue : Type 0 where
   pub id : ℕ
   pub is_listed : Bool

@@ -4,8 +4,8 @@ ghost use Rattle.minidump.specs.Below.Records.CrashpadText.{annotation_text};
 
 use minidump::MinidumpAnnotation;
 
-/// Returns the text of one of Crashpad's annotations, or the kind of any other: `<invalid>`,
-/// `<user defined>` or `<unsupported>`.
+/// Returns the text of a Crashpad annotation that is a string, or the kind of any other:
+/// `<invalid>`, `<user defined>` or `<unsupported>`.
 pub fn annotation_text(annotation: &MinidumpAnnotation) -> &str
     ensures { result.now ≡ annotation_text (annotation_of annotation.now) }
 {

@@ -16,8 +16,8 @@ use minidump::{
 };
 use std::alloc::Global;
 
-/// The streams of the system, each as the format has it: the stream,
-/// or the error for which there is none.
+/// The streams of the system, each as the format has it: the stream, or the error for which there
+/// is none.
 #[derive(Drop)]
 pub struct SystemStreams<'a> {
     /// The system information.
@@ -32,8 +32,8 @@ pub struct SystemStreams<'a> {
     pub lsb_release: Result<MinidumpLinuxLsbRelease<'a>, Error>,
 }
 
-/// The streams of the crash and its threads, each as the format has it: the stream,
-/// or the error for which there is none.
+/// The streams of the crash and its threads, each as the format has it: the stream, or the error
+/// for which there is none.
 #[derive(Drop)]
 pub struct ThreadStreams<'a> {
     /// The exceptions of all entries of the directory that have their type, in its order, each or
@@ -47,8 +47,8 @@ pub struct ThreadStreams<'a> {
     pub infos: Result<MinidumpThreadInfoList, Error>,
 }
 
-/// The streams of what the process itself said, each as the format has it: the stream,
-/// or the error for which there is none.
+/// The streams of what the process itself said, each as the format has it: the stream, or the error
+/// for which there is none.
 #[derive(Drop)]
 pub struct MessageStreams<'a> {
     /// The assertion that failed.
@@ -65,17 +65,17 @@ pub struct MessageStreams<'a> {
     pub stability: Result<StabilityReport, Error>,
 }
 
-/// The streams of the process, each as the format has it: the stream,
-/// or the error for which there is none.
+/// The streams of the process, each as the format has it: the stream, or the error for which there
+/// is none.
 #[derive(Drop)]
 pub struct ProcessStreams<'a> {
     /// The handles.
     pub handles: Result<MinidumpHandleDataStream, Error>,
-    /// Linux's `/proc/self/status`.
+    /// Linux's `/proc/PID/status`.
     pub status: Result<MinidumpLinuxProcStatus<'a>, Error>,
-    /// Linux's environment.
+    /// Linux's `/proc/PID/environ`.
     pub environ: Result<MinidumpLinuxEnviron<'a>, Error>,
-    /// Linux's `/proc/self/limits`.
+    /// Linux's `/proc/PID/limits`.
     pub limits: Result<MinidumpLinuxProcLimits<'a>, Error>,
 }
 

@@ -71,12 +71,12 @@ impl<'a> Crash<'a> {
         walked_at(&self.contents, thread)
     }
 
-    /// Lets the crash go, so that a caller's crate need not prove how.
+    /// Drops the crash. By this call a caller's crate need not prove how it is dropped.
     pub fn close(self) {}
 }
 
-/// Returns the status with which a dump ends a program: 0, or 1 if it is no minidump, or if
-/// something of it is there and can't be read.
+/// Returns the status with which a dump ends a program: 0, or 1 if `crash` is an error, or if
+/// something of the dump is there and can't be read.
 pub fn status_of(crash: &Result<Crash<'_>, Error>) -> u8
     ensures { result ≡ status_of (map_ok crash_of crash.now) }
 {

@@ -24,7 +24,8 @@ pub enum Damage {
         /// Why it can't be read.
         error: Error,
     },
-    /// An exception of the directory before the last one, whose error is that of the stream.
+    /// The exception of an entry of the directory before the last one of its type. The error of the
+    /// last one is that of the stream.
     Exception {
         /// Why it can't be read.
         error: Error,

@@ -38,9 +38,10 @@ pub struct CrashFrame {
     /// address below its return address, which lies in the call. On ARM of 32 bits bit 0 of the return
     /// address, which stands for Thumb code, is cleared first. `None` where nothing lies below.
     pub address: Option<u64>,
-    /// The instruction pointer of the context, or else the return address of the frame before.
+    /// The instruction pointer of the context, or else the return address by which the frame was
+    /// found.
     pub instruction: u64,
-    /// The stack pointer.
+    /// The stack pointer, as [`StackFrame::stack_pointer`] has it.
     pub stack_pointer: u64,
     /// The frame pointer, or `None` if it isn't known.
     pub frame_pointer: Option<u64>,
@@ -158,7 +159,7 @@ fn frames_in(
         .collect(alloc)
 }
 
-/// Returns a frame of a stack with its module.
+/// Returns a frame of a stack with the address by which it is looked up, and its place in a module.
 pub fn frame_in(stack: &Stack<'_, '_>, frame: &StackFrame) -> CrashFrame
     ensures { result ≡ frame_in (stack_of stack.now) frame.now }
 {

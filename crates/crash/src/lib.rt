@@ -1,9 +1,9 @@
 //! What a minidump says of a crash, as one value: [`Crash`].
 //!
-//! [`Crash::read`] reads each stream once, and finds in the streams which exception counts, where
-//! and why the process crashed, its threads, its modules, and what of the dump can't be read. Text,
-//! JSON and tables are to be made of this value alone: no name of a code is looked up then, no
-//! address, and no stream is read again.
+//! [`Crash::read`] reads the streams, and finds in them which exception counts, where and why the
+//! process crashed, its threads, its modules, and what of the dump can't be read. Text, JSON and
+//! tables can be made of this value alone, without looking up a name of a code or an address, and
+//! without reading a stream again.
 //!
 //! - [`Contents`] has the streams, each as the format has it: the stream, or the error for which
 //!   there is none. Of the exceptions it has those of all entries of the directory.
@@ -23,8 +23,9 @@
 //! can be read. The address of the crash is its address. The thread that crashed is the last of its
 //! id. Its registers are those of the exception's context, if that is whole, else of the thread's own,
 //! if that is. A context that its writer cut after the general registers, as LLDB does, gives these
-//! where neither is whole, the exception's first: [`ShortContext`]. If the list of threads lacks the
-//! thread, one of the exception's context alone follows the others.
+//! where neither is whole, the exception's first: [`ShortContext`]. If the list of threads lacks
+//! the thread, it follows the others, with the registers and the frames of the exception's context
+//! alone.
 //!
 //! A frame's place in a module is the index of the module in its list, and the offset in it. The
 //! frames by frame pointers stand apart from the words of the stack that may be return addresses.
@@ -36,12 +37,14 @@
 //!
 //! # What is proved
 //!
-//! The crash is the one that the definition `crash_in` assigns to the bytes and to the names of
-//! codes, and so is each error, but for `OutOfMemory`: [`Crash::read`]. The status is that of the
-//! definition of its name: [`status_of`]. That the entry of the exception has the error of its
-//! stream, though all exceptions are read at once, is a law of the definitions: [`laws`]. So are the
-//! answers of the calls on parts of a crash, each by the definition that its contract names, as
-//! [`annotation_text`], [`regions_of`] and [`CrashThread::short_context`].
+//! - The crash is the one that the definition `crash_in` assigns to the bytes and to the names of
+//!   codes, and so is each error, but for `OutOfMemory`: [`Crash::read`].
+//! - The status is that of the definition of its name: [`status_of`].
+//! - The entry of the exception has the error of its stream, though all exceptions are read at
+//!   once. This is a law of the definitions: [`laws`].
+//! - The calls on parts of a crash, such as [`annotation_text`], [`regions_of`] and
+//!   [`CrashThread::short_context`], have no laws. The contract of each equates its result with the
+//!   definition that it names.
 #![tactic(auto)]
 
 mod addresses;

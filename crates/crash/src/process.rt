@@ -26,7 +26,7 @@ use std::alloc::{AllocError, Global};
 pub struct CrashProcess {
     /// The system, or `None` if its information can't be read.
     pub system: Option<CrashSystem>,
-    /// The id, by the misc information, else by Linux's status.
+    /// The id, by the misc information, else by Linux's status; `None` if neither has it.
     pub id: Option<u32>,
     /// The id of its parent, `PPid` of Linux's status; 0 if that is outside of the process's
     /// namespace.
@@ -57,9 +57,10 @@ pub struct CrashSystem {
     pub cpu: Cpu,
     /// The number of processors.
     pub processors: u8,
-    /// The version of the operating system.
+    /// The version of the operating system, by [`MinidumpSystemInfo::os_parts`].
     pub version: String,
-    /// The build of that version.
+    /// The build of that version, or on Windows its service pack, by
+    /// [`MinidumpSystemInfo::os_parts`].
     pub build: Option<String>,
     /// The description of the processor, by the system information, else the first `model name` of
     /// Linux's `/proc/cpuinfo`, with U+FFFD for what isn't UTF-8.

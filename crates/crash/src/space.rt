@@ -26,7 +26,7 @@ use std::alloc::{AllocError, Global};
 pub struct SpaceStreams<'a> {
     /// The modules.
     pub modules: MinidumpModuleList,
-    /// Why their list can't be read.
+    /// Why their list can't be read, or `None` if it can be.
     pub modules_error: Option<Error>,
     /// The unloaded modules.
     pub unloaded: Result<MinidumpUnloadedModuleList, Error>,

@@ -66,7 +66,7 @@ damage_json (Stack id) = damage_object (codes "stack") None (Some id) None
 
 -- ---- all of it
 
--- a time, of which 0 says nothing
+-- a time stamp, absent where it is 0, which says nothing
 abbrev pub unless_zero : ℕ → Option ℕ
 unless_zero n = if n == 0 then None else Some n
 
@@ -94,7 +94,7 @@ file_members c =
     ∷ (codes "unreadable_modules", array_of unreadable_json c.modules.unreadable)
     ∷ []
 
--- what is known of the crash by its signature; then the kinds of handles, the assertion and
+-- what is known of the crash, with its signature; then the kinds of handles, the assertion and
 -- Crashpad's annotations
 unfoldable pub signed_members : CrashValue → Option (List ℕ) → List (List ℕ × Json)
 signed_members c signature =

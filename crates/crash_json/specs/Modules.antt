@@ -27,7 +27,7 @@ module_members m =
 
 -- ---- symbols
 
--- symbols were looked for, and aren't there
+-- symbols were looked for and are missing, or memory ran out for them
 unfoldable pub are_missing : SymbolState → Bool
 are_missing Unwanted = false
 are_missing Missing = true

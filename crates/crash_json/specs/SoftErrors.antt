@@ -8,7 +8,7 @@ use Rattle.json.specs.Lex.{tokens}
 abbrev pub soft_depth : ℕ
 soft_depth = 127
 
--- the value of a text that is JSON
+-- the value of a text that is JSON and nests no deeper
 abbrev pub value_in : List ℕ → Option Json
 value_in text = option_and_then (λ p. if_last p.0 p.1) (value soft_depth (tokens text))
 

@@ -75,7 +75,7 @@ abbrev pub index_members : Bool → ℕ → List (List ℕ × Json)
 index_members is_crashing number =
     if is_crashing then (codes "threads_index", count number) ∷ [] else []
 
--- the registers that the first frame of a thread has: those of the thread that crashed
+-- the context whose registers the first frame of a thread has, in `crashing_thread` alone
 abbrev pub shown_context : Bool → ThreadValue → Option ContextValue
 shown_context is_crashing t = if is_crashing then t.context else None
 
@@ -97,12 +97,12 @@ threads_json r = numbered_array_of (thread_json r false) r.crash.threads.threads
 abbrev pub crashing_json : ReportValue → Json
 crashing_json r = or_null (λ p. thread_json r true p.0 p.1) (crashed_thread r.crash.threads)
 
--- the word for whose context the registers are of
+-- the word for whose context it is
 abbrev pub origin_name : ContextOrigin → List ℕ
 origin_name OfException = codes "exception"
 origin_name OfThread = codes "thread"
 
--- whose context the registers of the thread that crashed are of
+-- the context that the registers of the thread that crashed come from
 abbrev pub registers_of : ThreadsValue → Option (List ℕ)
 registers_of t = option_map (λ c. origin_name c.origin)
     (option_and_then (λ p. p.1.context) (crashed_thread t))

@@ -177,14 +177,14 @@ impl ToJson for Sender {
     }
 }
 
-/// Returns a number that may be absent, as one that is wider.
+/// Widens a number that may be absent.
 pub(crate) fn widened(number: Option<u32>) -> Option<u64>
     ensures { result ≡ number }
 {
     Some(number? as u64)
 }
 
-// Puts one that can't be read.
+// Puts an exception that can't be read, by the name of its error.
 #[tactic(auto, unfolding(crate::specs::Cause::unread_json))]
 fn put_unread(out: &mut Writer, alloc: Global, error: &str) -> Put
     ensures { Puts result out.old out.new (unread_json error.now) }

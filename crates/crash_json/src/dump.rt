@@ -36,7 +36,7 @@ pub(crate) fn put_minidump(out: &mut Writer, alloc: Global, report: Report<'_, '
     Ok(())
 }
 
-// Returns a time, of which 0 says nothing.
+// Returns a time stamp, or `None` if it is 0, which says nothing.
 fn unless_zero(time: u32) -> Option<u64>
     ensures { result ≡ unless_zero time }
 {
@@ -126,7 +126,7 @@ fn put_signed<'l>(
     .add(out, alloc)
 }
 
-// The value of a member, without parts or of a part of the crash.
+// The value of a member: a scalar, or what is made of a part of the crash.
 #[derive(Clone, Copy)]
 pub(crate) enum Member<'l, 'a> {
     Scalar(Scalar<'l>),

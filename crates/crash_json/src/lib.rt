@@ -6,10 +6,10 @@
 //!
 //! # The members
 //!
-//! A line is one object. `docs/JSON.md` lists its members, and says what each has. All are always there,
-//! but for `path` if the caller has none, and for what needs symbols if there are none. [`JsonLimits`]
-//! bounds the frames of a thread, and asks for the environment. The text of `soft_errors` is JSON in the
-//! line if it nests at most 127 deep.
+//! A line is one object. `docs/JSON.md` lists its members, and says what each has. All are always
+//! there, but for `path` if the caller has none, and for what needs symbols if there are none.
+//! [`JsonLimits`] bounds the frames of a thread, and asks for the environment. If the text of the
+//! soft errors is JSON that nests at most 127 deep, `soft_errors` is its value, and else the text.
 //!
 //! # What is proved
 //!
@@ -63,7 +63,8 @@ use tree::text_of;
 /// How much of a crash is written.
 #[derive(Clone, Copy, Debug, PartialEq, Eq)]
 pub struct JsonLimits {
-    /// How many frames of a thread are written at most.
+    /// The most frames of a thread that are written, candidates included. With 0 the registers of
+    /// the thread that crashed are left out, too: its first frame has them.
     pub frames: usize,
     /// Whether the variables of the environment are written. They may hold secrets, such as
     /// passwords.
@@ -97,8 +98,11 @@ pub fn crash_json(
     }
 }
 
-/// Makes the JSON text of a crash: by symbols with the backtraces that they give, and without symbols
-/// with the walks by frame pointers. `path` is written as it is.
+/// Makes the JSON text of a crash. With symbols the frames of a thread are those of its backtrace,
+/// with the names that symbols give, and without symbols those of its walk by frame pointers.
+/// `path` is written as it is.
+///
+/// Returns `AllocError` if an allocation fails.
 pub fn json_of<'l>(
     alloc: Global,
     path: Option<&'l str>,

@@ -98,7 +98,7 @@ fn put_state(out: &mut Writer, alloc: Global, state: SymbolState) -> Put
     .add(out, alloc)
 }
 
-// Tells whether symbols were looked for, and aren't there.
+// Tells whether symbols were looked for and are missing, or memory ran out for them.
 #[tactic(auto, unfolding(crate::specs::Modules::are_missing))]
 fn are_missing(state: SymbolState) -> bool
     ensures { result ≡ are_missing state }

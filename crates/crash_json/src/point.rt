@@ -64,7 +64,7 @@ impl ToJson for PointMember<'_> {
 
 // ---- the registers
 
-// Puts the registers whose values lie somewhere.
+// Puts the registers whose values lie in a module, an unloaded module or the stack of a thread.
 fn put_registers(out: &mut Writer, alloc: Global, registers: &[(&'static str, AddressFacts)]) -> Put
     ensures { Puts result out.old out.new (placed_json (map (λ r. (r.0.now, r.1)) registers.now)) }
 {

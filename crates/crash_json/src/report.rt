@@ -142,7 +142,7 @@ fn soft_errors<'a>(found: &Result<MinidumpSoftErrors<'a>, Error>) -> Option<&'a 
     }
 }
 
-// The value of a member, without parts or of a part of the crash.
+// The value of a member: a scalar, or what is made of a part of the crash.
 #[derive(Clone, Copy)]
 pub(crate) enum ReportMember<'l, 'a, 's, 'n> {
     Scalar(Scalar<'l>),

@@ -119,7 +119,8 @@ fn mark_of(
     }
 }
 
-// Makes the words for a frame by its function, and by the file of its module with the offset in it.
+// Makes the words for a frame: the name of its function or, if that isn't known, the file of its
+// module with the offset in it.
 fn mark_text(
     alloc: Global,
     function: Option<FrameFunction<'_>>,

@@ -34,7 +34,7 @@ fn put_soft(out: &mut Writer, alloc: Global, text: &str) -> Put
     Ok(())
 }
 
-// Returns the value of a text that is JSON.
+// Returns the value of a text that is JSON and nests at most 127 deep, or `None`.
 fn value_in<'a>(
     alloc: Global,
     text: &'a str,

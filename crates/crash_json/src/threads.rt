@@ -20,8 +20,8 @@ use stack_walk::WalkEnd;
 use std::alloc::{AllocError, Global};
 use symbol_walk::SymbolWalkEnd;
 
-/// What the values of threads are made by. The thread that crashed is written with its index, and its
-/// first frame with registers.
+/// What the values of threads are made by. With `is_crashing` a thread is written with its index,
+/// and its first frame with its registers: so is `crashing_thread`, and no item of `threads`.
 #[derive(Clone, Copy)]
 pub(crate) struct EachThread<'l, 'a, 's, 'n> {
     pub(crate) report: Report<'l, 'a, 's, 'n>,
@@ -240,7 +240,7 @@ pub(crate) fn put_crashing(out: &mut Writer, alloc: Global, report: Report<'_, '
     Ok(())
 }
 
-/// Returns the word for whose context the registers of the thread that crashed are of.
+/// Returns the word for the context that the registers of the thread that crashed come from.
 pub(crate) fn registers_of(threads: &CrashThreads) -> Option<&'static str>
     ensures { option_copied result ≡ registers_of (threads_of threads.now) }
 {

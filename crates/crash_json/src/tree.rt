@@ -1,4 +1,4 @@
-//! JSON values, put an object or an array at a time over the writer of `json`.
+//! Writes JSON values, an object or an array at a time, with the writer of `json`.
 //!
 //! A type has a JSON value by [`ToJson`], and so has each item of a list; by [`NumberedJson`] an item's
 //! value has its number in it. [`Members`] are the members of an object, whose values are of one type:

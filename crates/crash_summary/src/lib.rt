@@ -46,9 +46,9 @@ pub struct CrashSummary {
     pub address: Option<u64>,
     /// The reason of the crash in words, or `None` without system information.
     pub reason: Option<String>,
-    /// The module that contains the instruction pointer of the exception's context, or of the
-    /// thread's if there is no such context that can be decoded, or `None` if there is neither or
-    /// no kept module contains it.
+    /// The kept module that contains the instruction pointer of the exception's context, or, if
+    /// that can't be decoded, of the thread's own. `None` if neither can be decoded, or no kept
+    /// module contains the instruction pointer.
     pub module: Option<ModuleHit>,
     /// The stack of the thread, or `None` if there is no such thread or no memory of its stack.
     pub stack: Option<StackHit>,

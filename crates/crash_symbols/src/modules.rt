@@ -21,10 +21,11 @@ pub fn is_of_module(file: &SymbolFile<'_>, module: &CrashModule) -> bool
     }
 }
 
-/// Returns the path of the symbol file of a module, below a directory of symbol files, as Breakpad
-/// lays it out: `NAME/ID/NAME.sym`, by the name of the debug file, from which the last part leaves out
-/// the ending `.pdb`, and its identifier. Returns `None` if the module lacks one of both, or it can't
-/// be the name of a file: it is empty, `.` or `..`, or has a `/`, a `\` or a NUL.
+/// Returns the path of the symbol file of a module below a directory of symbol files, as Breakpad
+/// lays it out: `NAME/ID/NAME.sym`. NAME is the name of the debug file, in the last part without
+/// the ending `.pdb` in letters of either case, and ID is the debug identifier. Returns `None` if
+/// the module lacks one of them, or if one can't be the name of a file: it is empty, `.` or `..`,
+/// or has a `/`, a `\` or a NUL.
 pub fn symbol_path(alloc: Global, module: &CrashModule) -> Result<Option<String>, AllocError>
     ensures { IfOk result (λ path. option_map string_bytes path
         ≡ symbol_path (loaded_of module.now)) }

@@ -37,7 +37,7 @@ pub struct NamedFrame<'l> {
 pub struct FrameFunction<'l> {
     /// The name.
     pub name: LinuxOsStr<'l>,
-    /// The offset of the frame's address from the first of the function.
+    /// The offset of the frame's address from the first address of the function or symbol.
     pub offset: u64,
 }
 

@@ -56,8 +56,8 @@ impl<'s, 'l> ShownWalk<'s, 'l> {
     }
 }
 
-/// Returns what is shown of a thread with its index: its backtrace by symbols, and without symbols its
-/// walk. `None` if it has none.
+/// Returns what is shown of a thread: its backtrace by `symbols`, or without `symbols` its walk.
+/// `number` is its index among the threads of the crash. Returns `None` if it has none.
 pub fn shown_walk<'s, 'l: 's>(
     alloc: Global,
     thread: &CrashThread,

@@ -49,11 +49,12 @@ state_words Free m = codes ", memory free"
 state_words Reserved m = codes ", memory reserved"
 state_words Committed m = rights_words m
 
+-- the same, where it is known which memory contains the address
 abbrev pub memory_words : Option AddressMemory → List ℕ
 memory_words (Some m) = state_words m.state m
 memory_words None = []
 
--- all of it, by the unloaded modules and the threads, and that the processor can't access it
+-- all that is known of an address, by the unloaded modules and the threads
 abbrev pub address_words : List UnloadedModuleValue → List ThreadValue → AddressFacts → List ℕ
 address_words unloaded threads a = null_words a.null_offset
     ++ (words_if (not a.is_canonical) (codes ", not canonical")

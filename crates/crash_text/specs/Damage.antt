@@ -16,7 +16,7 @@ use Rattle.crash.specs.declared.unreadable_modules.UnreadableModule.{UnreadableM
 use Rattle.crash.specs.Crash.{CrashValue}
 use Rattle.crash_text.specs.Words.{id_text}
 
--- the name of a type of stream, where it has one
+-- the name of a type of stream, or `stream` and its number where it has none
 abbrev pub name_of_type : ℕ → Option MINIDUMP_STREAM_TYPE → List ℕ
 name_of_type number (Some known_type) = type_name known_type
 name_of_type number None = concat (codes "stream " ∷ hex number ∷ [])

@@ -11,7 +11,7 @@ use Rattle.crash_text.specs.Escape.{escaped_text}
 unfoldable pub line_of : List ℕ → List ℕ
 line_of text = escaped_text text ++ 0x0a ∷ []
 
--- a call that is done has appended lines to a text, each as it is printed
+-- a call that returns `Ok` has appended lines to a text, each as it is printed
 abbrev pub Adds : String Global → String Global → List (List ℕ) → Result (Unit {0}) AllocError
     → Type 0
 Adds old new lines result =

@@ -72,7 +72,7 @@ abbrev pub is_in : ℕ → Option (ℕ × ℕ) → Bool
 is_in index (Some place) = place.0 == index
 is_in index None = false
 
--- the place of the address of the crash, where it is known
+-- the module that has the address of the crash, by its index, and the offset in it
 abbrev pub address_place : Option AddressFacts → Option (ℕ × ℕ)
 address_place address = option_and_then (λ a. a.«module») address
 

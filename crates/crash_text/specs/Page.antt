@@ -12,6 +12,7 @@ pub record PageValue : Type 0 where
   pub limits : TextLimits
   pub symbols : Option SymbolizedValue
 
+-- the same of a `Page`
 abbrev pub page_of : Page → PageValue
 page_of p = record {
   crash = crash_of p.crash.now;

@@ -51,8 +51,8 @@ placed_registers c registers = placed_heading registers ++ flat_map (placed_line
 
 -- ---- the instruction pointer
 
--- an address is ordinary for code: a module has it, and what is known of its memory is no reason
--- that it couldn't be run
+-- an address is ordinary for code: a module has it, and its memory may be run as code or isn't
+-- known
 abbrev pub is_ordinary : AddressFacts → Bool
 is_ordinary a = is_some a.«module» && option_map_or (λ m. m.is_executable) a.memory true
 

@@ -16,7 +16,8 @@ use Rattle.crash.specs.Contexts.{ContextValue}
 use Rattle.crash.specs.Crash.{CrashValue}
 use Rattle.crash.specs.Threads.{crashed_thread}
 
--- the words for a register of so many bytes, of at most 8: its name in three columns, and its value
+-- the words for a register of `size` bytes: its name in three columns, and its value with two
+-- digits for each byte, of at most 8
 abbrev pub register_words : ℕ → List ℕ × ℕ → List ℕ
 register_words size r = concat (codes "  " ∷ left 3 r.0 ∷ codes " "
     ∷ register_text (min size 8) r.1 ∷ [])
@@ -46,14 +47,14 @@ abbrev pub heading_row : ContextOrigin → Option ShortContext → List ℕ
 heading_row origin None = heading_of origin
 heading_row origin (Some s) = short_row (heading_of origin) (codes ", from a ") s
 
--- why the context of an exception isn't used: it is no context of the processor, and has so many
--- bytes. One that is outside the file is damage, and no bytes are no context at all
+-- that the context of an exception isn't used since it is no context of the processor, with its
+-- size in bytes. One that is outside the file is a line of damage, and one of 0 bytes has no line
 unfoldable pub unused_lines : Option ContextProblem → List (List ℕ)
 unused_lines (Some (NotAccepted size)) = if size == 0 then [] else concat (
     codes "the context of the exception can't be read, " ∷ decimal size ∷ codes " bytes" ∷ []) ∷ []
 unused_lines _ = []
 
--- the registers of the thread that crashed, where there are some
+-- the registers of the thread that crashed, or that there are none that can be read
 abbrev pub known_lines : Option ContextValue → List (List ℕ)
 known_lines (Some c) = heading_row c.origin c.short ∷ map (register_row c.size) (rows c.registers)
 known_lines None = codes "no registers that can be read" ∷ []

@@ -14,7 +14,8 @@ use Rattle.crash_text.specs.Page.{PageValue}
 use Rattle.crash_text.specs.System.{head_lines}
 use Rattle.crash_text.specs.Threads.{crashed_lines, each_other}
 
--- that nothing crashed, the system, the process, the crash, and what can't be read
+-- that there is no exception, where there is none, and then the system, the process, the crash, and
+-- what can't be read
 abbrev pub first_lines : CrashValue → List (List ℕ)
 first_lines c = none_lines c.cause.exceptions
     ++ (head_lines c ++ (crash_lines c ++ damage_lines c))

@@ -43,7 +43,7 @@ id_text words id = concat (words ∷ decimal id ∷ codes " (" ∷ hex id ∷ co
 unfoldable pub count_row : List ℕ → ℕ → List ℕ
 count_row what count = concat (what ∷ codes " " ∷ decimal count ∷ [])
 
--- the line of an error if the error says that something is missing
+-- a line of these words, if an error says that something is missing
 abbrev pub if_missing : List ℕ → Error → List (List ℕ)
 if_missing words e = if is_missing e then words ∷ [] else []
 

@@ -10,9 +10,9 @@
 //!   comments of the dump;
 //! - of the exception that counts the thread, the address with its module, the reason, the code
 //!   and where it happened, and LLDB's description, which is printed in place of its flags and
-//!   parameters; the registers of the thread, four a row, how much of their context there is if
-//!   it is cut, and why the context of the exception isn't used; its flags and segments, the
-//!   flags that are set, the registers whose values lie in a module or a stack, its instruction
+//!   parameters; why the context of the exception isn't used, how much of the registers' context
+//!   there is if it is cut, and the registers of the thread, four a row; its flags and segments,
+//!   the flags that are set, the registers whose values lie in a module or a stack, its instruction
 //!   pointer, unless it is in a module and may be run, the bytes there, and the words at its
 //!   stack pointer; then, if there are several, all exceptions, each with its address, unless it
 //!   happened there, and with why its context can't be read;
@@ -56,8 +56,9 @@
 //!
 //! # Errors
 //!
-//! Making a text takes memory: `AllocError`. There is no text then, and [`push_line`] leaves its
-//! text as it was.
+//! [`text_of`] and [`push_line`] return `AllocError` if an allocation fails: there is no text then,
+//! and [`push_line`] leaves its text as it was. [`crash_text`] returns the error of
+//! [`minidump::Minidump::read`], else `OutOfMemory`.
 //!
 //! # What is proved
 //!

@@ -138,7 +138,7 @@ fn has_mark(marks: &[bool], index: usize) -> bool
     }
 }
 
-// Returns the place of the address of the crash, if it is known.
+// Returns the module that has the address of the crash, by its index, and the offset in it.
 fn address_place(address: Option<AddressFacts>) -> Option<(usize, u64)>
     ensures { result ≡ address_place address }
 {
@@ -175,7 +175,7 @@ fn push_module(out: &mut String, is_asked: bool, module: &CrashModule, symbols: 
     ])
 }
 
-// Makes the words for the address after a module, none if they aren't asked for.
+// Makes the words for the address after a module, none if they aren't asked for or it isn't known.
 pub(crate) fn end_text(
     alloc: Global,
     is_asked: bool,

@@ -167,7 +167,8 @@ fn push_instruction(out: &mut String, crash: &Crash<'_>, facts: &AddressFacts) -
     }
 }
 
-// Tells whether an address is ordinary for code.
+// Tells whether an address is ordinary for code: a module has it, and its memory may be run as code
+// or isn't known.
 fn is_ordinary(facts: &AddressFacts) -> bool
     ensures { result ≡ is_ordinary facts.now }
 {

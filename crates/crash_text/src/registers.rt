@@ -116,7 +116,7 @@ fn heading_of(origin: ContextOrigin) -> &'static str
     }
 }
 
-// Appends the rows of registers, four a row, of which each has so many bytes.
+// Appends the rows of registers of `size` bytes each, four a row.
 fn push_rows(out: &mut String, registers: &[(&'static str, u64)], size: usize) -> Added
     ensures { Adds out.old out.new (map (register_row size)
         (rows (map (λ r. (r.0.now, r.1)) registers.now))) result }

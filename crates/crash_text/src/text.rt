@@ -44,8 +44,8 @@ pub fn crash_text(
     Ok(text?)
 }
 
-/// Makes the text of a crash: by symbols with the backtraces that they give, and without symbols
-/// with the walks by frame pointers.
+/// Makes the text of a crash. With symbols the frames of a thread are those of its backtrace, with
+/// the names that symbols give, and without symbols those of its walk by frame pointers.
 ///
 /// Returns `AllocError` if an allocation fails.
 pub fn text_of<'l>(
@@ -74,7 +74,8 @@ pub fn text_of<'l>(
     Ok(text)
 }
 
-// Appends that nothing crashed, the system, the process, the crash, and what can't be read.
+// Appends that there is no exception, if there is none, and then the system, the process, the
+// crash, and what can't be read.
 fn push_first(out: &mut String, crash: &Crash<'_>) -> Added
     ensures { Adds out.old out.new (first_lines (crash_of crash.now)) result }
 {

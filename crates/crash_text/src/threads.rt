@@ -194,7 +194,7 @@ fn push_range(out: &mut String, what: &str, range: &StackRange) -> Added
     ])
 }
 
-// Appends why the own context of a thread isn't used, whose frames are those of the exception's.
+// Appends why the own context of a thread isn't used, if its frames are those of the exception's.
 fn push_own(out: &mut String, problem: Option<ContextProblem>) -> Added
     ensures { Adds out.old out.new (own_lines problem) result }
 {

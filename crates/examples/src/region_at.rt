@@ -22,7 +22,8 @@ use minidump::{Error, Minidump, UnifiedMemoryList};
 use std::alloc::Global;
 
 /// Returns the base address and the bytes of the region of memory that contains `address`, or
-/// `None` if no kept region does. `bytes` are those of a minidump.
+/// `None` if no kept region does: of overlapping regions one is kept. `bytes` are those of a
+/// minidump.
 ///
 /// Returns the errors of [`Minidump::read`], and `OutOfMemory` also where [`Minidump::get_memory`]
 /// does.

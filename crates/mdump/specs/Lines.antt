@@ -13,8 +13,7 @@ use Rattle.minidump.specs.Below.Modules.Module.{ModuleValue}
 abbrev pub region_line : ℕ → ℕ → List ℕ
 region_line base size = concat (codes "memory " ∷ hex base ∷ codes " " ∷ hex size ∷ codes "\n" ∷ [])
 
--- the region of memory that was found, or that there is none. The size of a 64-bit list's region is
--- in full
+-- the region of memory that was found, or that there is none
 abbrev pub memory_line : Option UnifiedRegion → List ℕ
 memory_line (Some region) = region_line region.base_address region.size
 memory_line None = codes "memory none\n"

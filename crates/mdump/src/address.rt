@@ -1,7 +1,8 @@
 ghost use Rattle.std.specs.Prelude.{◌≡◌, ◌↔◌, ℕ};
 ghost use Rattle.mdump.specs.Address.{SpellsAddress, WritesHex};
 
-// Returns the address that a word spells, if it spells one.
+// Returns the address that a word spells: 1 to 16 hexadecimal digits, alone or after `0x`. Returns
+// `None` for any other word.
 pub(crate) fn hex_address(word: &str) -> Option<u64>
     ensures { (n : ℕ) → (result ≡ Some n) ↔ SpellsAddress word.now n }
 {
@@ -11,7 +12,7 @@ pub(crate) fn hex_address(word: &str) -> Option<u64>
     }
 }
 
-// Returns the number of 1 to 16 hexadecimal digits.
+// Returns the number of 1 to 16 hexadecimal digits, or `None` for any other text.
 fn hex_digits(digits: &str) -> Option<u64>
     ensures { (n : ℕ) → (result ≡ Some n) ↔ WritesHex digits.now n }
 {

@@ -13,7 +13,8 @@
 //! # Errors
 //!
 //! Status 1: the dump, the file or the output failed, and a line `FILE: NAME` with the name of the
-//! error goes to standard error, or `mdump: NAME` where there is no file. Status 2: the arguments are no command, and the usage goes to standard error.
+//! error goes to standard error, or `mdump: NAME` where there is no file. Status 2: the arguments
+//! are no command, and the usage goes to standard error.
 //!
 //! # What is proved
 //!
@@ -24,7 +25,8 @@
 //! - At 1 the error is that of the path, and the output is as it was: `FileNotFound` only if it
 //!   opens no file, `IoError` only if a read of the file failed, `MissingHeader` and the like only
 //!   if its bytes have that error, or `OutOfMemory`. Or the file is a minidump, and the error is
-//!   `IoError` only if the output has failed, else `OutOfMemory`: `IsCommandError`.
+//!   `IoError` only if the output has failed, else `OutOfMemory`. Or the usage or the version was
+//!   asked for, and the error is `IoError`, since the output has failed: `IsCommandError`.
 //! - Which command the arguments mean, and how an address is spelled: `Command::parse`,
 //!   `hex_address`.
 //! - The status and the texts of a run from the arguments of the process: `run_arguments`; the

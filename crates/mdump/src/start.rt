@@ -13,7 +13,9 @@ use std::io;
 use std::io::{ErrorKind, Write};
 use std::process::ExitCode;
 
-/// Runs the program with the arguments of its process. The first is its own name.
+/// Runs the program with the arguments of its process, of which the first is its own name, and
+/// returns the status. If memory ran out for the arguments, that is the error `OutOfMemory`. Any
+/// other error of `args` stands for arguments that are no command.
 pub(crate) fn run_arguments<R: OpenPath + AllocGlobal, O: Write, E: Write>(
     rt: &R,
     args: io::Result<Vec<String>>,

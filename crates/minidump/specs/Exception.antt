@@ -60,9 +60,9 @@ exception_in order file bytes =
     and_then (ok_or (record_at exception_layout order 0 bytes) StreamReadFailure)
     (λ raw. Ok (exception_at order file raw))
 
--- EXCEPTION_ACCESS_VIOLATION and EXCEPTION_IN_PAGE_ERROR of winnt.h, whose second parameter is the
--- address that was accessed. Any number of parameters from two on has a second one, also one above
--- 15
+-- whether the second parameter is the address that was accessed: on Windows, of winnt.h's
+-- EXCEPTION_ACCESS_VIOLATION and EXCEPTION_IN_PAGE_ERROR. Any number of parameters from two on has
+-- a second one, also one above 15
 abbrev has_address : Os → MINIDUMP_EXCEPTION → Bool
 has_address Windows r =
     (r.exception_code == 0xc0000005 || r.exception_code == 0xc0000006)

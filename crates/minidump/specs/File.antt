@@ -12,7 +12,7 @@ use Rattle.minidump.specs.DumpValue.{dump_of}
 abbrev pub IsWhole : {F : Type 0} → (F → Option (List ℕ)) → F → List ℕ → Type 0
 IsWhole left reader bytes = IfSome (left reader) (λ all. bytes ≡ all)
 
--- these bytes are a minidump
+-- the bytes that the reader has left, as far as it tells, are this minidump
 abbrev pub IsWholeDump : {F : Type 0} → (F → Option (List ℕ)) → F → Dump → Type 0
 IsWholeDump left reader dump = IsWhole left reader dump.file × (dump_in dump.file ≡ Ok dump)
 

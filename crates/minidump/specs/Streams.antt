@@ -14,7 +14,7 @@ use Rattle.minidump.specs.declared.streams.Streams.{Streams}
 use Rattle.minidump.specs.declared.streams.UnknownStreams.{UnknownStreams}
 use Rattle.minidump.specs.declared.streams.UnimplementedStreams.{UnimplementedStreams}
 
--- a stream by its type, a number or a name, where its bytes are, and whose its type is
+-- a stream: its type, by number or by name, the location of its bytes, and the vendor of its type
 pub record StreamInfo (T : Type 0) : Type 0 where
   pub stream_type : T
   pub location : MINIDUMP_LOCATION_DESCRIPTOR

@@ -107,9 +107,9 @@ fn keep_last(entries: &mut Vec<DecidingEntry>)
     entries.truncate(kept);
 }
 
-// Returns the bytes of the stream of a type, of entries that ascend by type. Returns
-// `StreamNotFound` if there is no entry of the type, and counts no step then; counts one else, and
-// returns `StreamReadFailure` if the bytes are not all in the file.
+// Returns the bytes of the stream of a type, by entries that ascend by type. Returns
+// `StreamNotFound` if there is no entry of the type, and counts no step then. Else it counts one
+// step, and returns `StreamReadFailure` if the bytes are not all in the file.
 pub(crate) fn raw_stream<'a>(
     entries: &[DecidingEntry],
     stream_type: u32,

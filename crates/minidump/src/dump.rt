@@ -50,11 +50,10 @@ impl<'a> Minidump<'a> {
     /// Reads the header, the directory and the system information of a minidump.
     ///
     /// Returns the first of these errors that holds: `MissingHeader` if there are fewer than 32
-    /// bytes, `HeaderMismatch` if they don't begin with the signature in either byte order,
-    /// `VersionMismatch` if the low 16 bits of the version are not those of a minidump,
-    /// `MissingDirectory` if an entry is not in the file. Returns `OutOfMemory` only if none of
-    /// them holds and there is at least one entry. A missing or malformed SystemInfo stream is no
-    /// error.
+    /// bytes, `HeaderMismatch` if they don't begin with the signature `MDMP` in either byte order,
+    /// `VersionMismatch` if the low 16 bits of the version are not 0xa793, `MissingDirectory` if an
+    /// entry of the directory is not in the file. Returns `OutOfMemory` only if none of them holds
+    /// and there is at least one entry. A missing or malformed SystemInfo stream is no error.
     pub fn read(alloc: Global, bytes: &'a [u8]) -> Result<Minidump<'a>, Error>
         ensures { Gives dump_of (HasEntries bytes.now) result (dump_in bytes.now) }
     {
@@ -116,7 +115,8 @@ impl<'a> Minidump<'a> {
         self.entries.as_slice()
     }
 
-    /// Returns an iterator over the streams of [`Minidump::all_streams`] whose type has no name.
+    /// Returns an iterator over the streams of [`Minidump::all_streams`] whose type has no name in
+    /// [`MINIDUMP_STREAM_TYPE`](crate::format::MINIDUMP_STREAM_TYPE).
     pub fn unknown_streams(&self) -> UnknownStreams<'_>
         ensures { unknown_left result
             ≡ filter_map as_unknown (entries_of (streams_of (dump_of self.now))) }
@@ -126,8 +126,8 @@ impl<'a> Minidump<'a> {
         }
     }
 
-    /// Returns an iterator over the streams of [`Minidump::all_streams`] whose type has a name, but
-    /// is never read.
+    /// Returns an iterator over the streams of [`Minidump::all_streams`] whose type has a name in
+    /// [`MINIDUMP_STREAM_TYPE`](crate::format::MINIDUMP_STREAM_TYPE), but is never read.
     pub fn unimplemented_streams(&self) -> UnimplementedStreams<'_>
         ensures { unimplemented_left result
             ≡ filter_map as_unimplemented (entries_of (streams_of (dump_of self.now))) }

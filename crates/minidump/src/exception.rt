@@ -59,7 +59,7 @@ impl<'a> MinidumpException<'a> {
     /// the dump was written, often within the handler of the exception.
     ///
     /// Returns `None` if the bytes of the context are not in the file, or [`MinidumpContext::read`]
-    /// returns an error for them. Takes no memory.
+    /// returns an error for them. `misc` is not used. Takes no memory.
     pub fn context(
         &self,
         system_info: &MinidumpSystemInfo,
@@ -73,10 +73,10 @@ impl<'a> MinidumpException<'a> {
         accepted_context(self.context, self.endian, system_info, misc)
     }
 
-    /// Returns the address of the crash. It is the one that was accessed, the second parameter, if
-    /// the system is Windows and the exception an access violation or an in-page error with two
-    /// parameters or more; else the address at which the exception happened. On a 32-bit processor
-    /// it is the low 32 bits, since some writers extend the sign.
+    /// Returns the address of the crash. For an access violation or an in-page error of Windows
+    /// with two parameters or more it is the second parameter, the address that was accessed; else
+    /// it is the address at which the exception happened. Of either it is the low 32 bits on a
+    /// 32-bit processor, since some writers extend the sign.
     pub fn get_crash_address(&self, os: Os, cpu: Cpu) -> u64
         ensures { result ≡ crash_address os cpu self.now.raw.exception_record }
     {
@@ -111,7 +111,7 @@ impl<'a> MinidumpException<'a> {
 
     /// Prints the record, and the context, if `system` has an architecture by which it can be
     /// decoded. Of the parameters it prints as many as `number_parameters` says, but at most the 15
-    /// that there are.
+    /// that there are. `misc` is not used.
     pub fn print<W: Write>(
         &self,
         alloc: Global,
@@ -227,7 +227,7 @@ fn push_context(out: &mut Vec<u8>, context: &Option<MinidumpContext>) -> Result<
 }
 
 /// Microsoft's `MINIDUMP_EXCEPTION_STREAM`: one record. Its context is not decoded. The only error
-/// is `StreamReadFailure`, if the stream has too few bytes.
+/// is `StreamReadFailure`, if the stream has fewer than 168 bytes.
 impl<'a> MinidumpStream<'a> for MinidumpException<'a> {
     ghost use Rattle.minidump.specs.Exception.{Exception, exception_stream};
 

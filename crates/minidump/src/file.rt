@@ -26,8 +26,8 @@ impl<'a> Minidump<'a> {
     /// Replaces the bytes of `into` by all that the reader has left, and reads the minidump that
     /// they are, as [`Minidump::read`] does.
     ///
-    /// Returns `IoError` exactly where the reader has failed by then. If a contract of yours has to
-    /// say what `into` holds afterwards, call [`read_all`] and then [`Minidump::read`].
+    /// Returns `IoError` exactly if the reader has failed, in this call or before it. To state in a
+    /// contract what `into` holds afterwards, call [`read_all`] and then [`Minidump::read`].
     pub fn read_from<R: ToldReader>(
         alloc: Global,
         reader: &mut R,
@@ -43,10 +43,11 @@ impl<'a> Minidump<'a> {
 
     /// Reads a file into `into` by [`read_file`], and then as [`Minidump::read`] does.
     ///
-    /// Returns `FileNotFound` if the file can't be opened, which leaves `into` as it was, and
-    /// `IoError` if a read fails, which leaves `into` empty, as does `OutOfMemory` while the file
-    /// is read. After every other result `into` holds the bytes of the file. Call [`read_file`] and
-    /// [`Minidump::read`] to use `into` afterwards by contract.
+    /// Returns `FileNotFound` if the file can't be opened, `IoError` if a read of it fails, and
+    /// else what [`Minidump::read`] does. `FileNotFound` leaves `into` as it was; `IoError`, and
+    /// `OutOfMemory` while the file is read, leave it empty. After every other result `into` holds
+    /// the bytes of the file. To state that in a contract, call [`read_file`] and then
+    /// [`Minidump::read`].
     pub fn read_path<R: OpenPath>(
         rt: &R,
         alloc: Global,

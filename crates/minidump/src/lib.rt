@@ -19,9 +19,10 @@
 //! # Errors
 //!
 //! `read` returns the first of `MissingHeader`, `HeaderMismatch`, `VersionMismatch` and
-//! `MissingDirectory` that holds, or `OutOfMemory`; `read_path` also `FileNotFound` and `IoError`.
-//! A stream is `StreamNotFound` where the directory has no entry of its type, `StreamReadFailure`
-//! where its span is not in the file; else its type decides.
+//! `MissingDirectory` that holds, or `OutOfMemory`; `read_from` also `IoError`, and `read_path`
+//! also `FileNotFound` and `IoError`. Reading a stream returns `StreamNotFound` if the directory
+//! has no entry of its type, `StreamReadFailure` if its bytes are not all in the file, else the
+//! errors of its type.
 //!
 //! # What is proved
 //!
@@ -59,11 +60,10 @@
 //! - The report is the text that `report_text` assigns to the dump and the names: all of it on
 //!   `Ok`, a prefix on `Err`. Of bytes that are no dump nothing is written: `write_report`, by
 //!   `Reports`.
-//! - All bytes that a reader has left are in the vector, if its contract names them, or the vector
-//!   is empty;
-//!   the error is `IoError` exactly where the reader has failed by then: `read_all`. The minidump
-//!   is the one that these bytes are, and each other error theirs, or `OutOfMemory`: `read_from`,
-//!   by `ReadsFrom`.
+//! - On `Ok` the vector holds all bytes that the reader had left, if its contract names them; on
+//!   `Err` it is empty. The error is `IoError` exactly if the reader has failed by then, else
+//!   `OutOfMemory`: `read_all`. The minidump is the one that these bytes are, and each other error
+//!   is theirs: `read_from`, by `ReadsFrom`.
 //! - The bytes are those of the file that the path opened, from its start; `FileNotFound` comes
 //!   only where it opened none, and `IoError` only where a read failed: `read_file`, by
 //!   `ReadsFile`, which also says what is left in the vector, and `read_path`, by `ReadsPath`.

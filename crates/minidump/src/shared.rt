@@ -47,7 +47,7 @@ impl<'a> SharedStreams<'a> {
     }
 }
 
-// Reads the list of memory with 64-bit ranges.
+// Reads the 64-bit list of memory, the stream of type Memory64ListStream.
 fn read_memory64<'a>(dump: &Minidump<'a>, alloc: Global) -> Result<UnifiedMemoryList<'a>, Error>
     ensures { IsListOf memory64_list_stream Memory64 (dump_of dump.now) result }
 {
@@ -57,7 +57,7 @@ fn read_memory64<'a>(dump: &Minidump<'a>, alloc: Global) -> Result<UnifiedMemory
     }
 }
 
-// Reads the list of memory with 32-bit ranges.
+// Reads the plain list of memory, the stream of type MemoryListStream.
 fn read_memory<'a>(dump: &Minidump<'a>, alloc: Global) -> Result<UnifiedMemoryList<'a>, Error>
     ensures { IsListOf memory_list_stream Memory (dump_of dump.now) result }
 {

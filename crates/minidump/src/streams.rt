@@ -18,29 +18,29 @@ pub struct MinidumpImplementedStream {
     pub stream_type: MINIDUMP_STREAM_TYPE,
     /// The location of its bytes.
     pub location: MINIDUMP_LOCATION_DESCRIPTOR,
-    /// The vendor of the type.
+    /// The vendor of the type, as [`stream_vendor`] returns it.
     pub vendor: &'static str,
 }
 
-/// A stream whose type has no name.
+/// A stream whose type has no name in [`MINIDUMP_STREAM_TYPE`].
 #[derive(Clone, Debug, Drop)]
 pub struct MinidumpUnknownStream {
     /// The type, as a number.
     pub stream_type: u32,
     /// The location of its bytes.
     pub location: MINIDUMP_LOCATION_DESCRIPTOR,
-    /// The vendor of the type.
+    /// The vendor of the type, as [`stream_vendor`] returns it.
     pub vendor: &'static str,
 }
 
-/// A stream whose type has a name, but is never read.
+/// A stream whose type has a name in [`MINIDUMP_STREAM_TYPE`], but is never read.
 #[derive(Clone, Debug, Drop)]
 pub struct MinidumpUnimplementedStream {
     /// The type.
     pub stream_type: MINIDUMP_STREAM_TYPE,
     /// The location of its bytes.
     pub location: MINIDUMP_LOCATION_DESCRIPTOR,
-    /// The vendor of the type.
+    /// The vendor of the type, as [`stream_vendor`] returns it.
     pub vendor: &'static str,
 }
 

@@ -76,7 +76,7 @@ impl<'a> MinidumpThread<'a> {
     /// handler of the exception.
     ///
     /// Returns `None` if the bytes of the context are not in the file, or [`MinidumpContext::read`]
-    /// returns an error for them. Takes no memory.
+    /// returns an error for them. `misc` is not used. Takes no memory.
     pub fn context(
         &self,
         system_info: &MinidumpSystemInfo,

@@ -109,7 +109,9 @@ impl<'l, 'a> IntoIterator for &'l MinidumpThreadList<'a> {
     }
 }
 
-/// Microsoft's `MINIDUMP_THREAD_LIST`: a plain list of entries. No context is decoded.
+/// Microsoft's `MINIDUMP_THREAD_LIST`: a plain list of entries. No context is decoded. Returns
+/// `StreamReadFailure` if the stream has no count, `StreamSizeMismatch` if it has another length
+/// than its count asks for, and `OutOfMemory` if an allocation fails.
 impl<'a> MinidumpStream<'a> for MinidumpThreadList<'a> {
     ghost use Rattle.std.specs.Prelude.{List};
     ghost use Rattle.minidump.specs.Thread.{Thread, thread_list_stream};

@@ -180,8 +180,8 @@ enum minidump_end {
     MINIDUMP_END_NO_FRAME_POINTER = 3,    /* the frame pointer isn't known */
     MINIDUMP_END_ZERO_FRAME_POINTER = 4,  /* it is 0, as a thread's first function finds it */
     MINIDUMP_END_BELOW_STACK_POINTER = 5, /* it lies below the stack pointer */
-    MINIDUMP_END_NO_RECORD = 6,           /* the memory of the stack doesn't hold both words at it */
-    MINIDUMP_END_NO_CODE = 7              /* the return address is 0, or lies in no module */
+    MINIDUMP_END_NO_RECORD = 6,           /* the memory of the stack doesn't hold both words at it, or they end at 2^64 or beyond */
+    MINIDUMP_END_NO_CODE = 7              /* the return address is 0, or no module contains the address below it */
 };
 
 /* Where a text lies in the buffer of texts: how many bytes stand before it, and how many it has. That of an absent text has
@@ -205,7 +205,7 @@ struct minidump_exception {
     uint16_t access;          /* enum minidump_access; 0 but for access violations and in-page errors of Windows */
     uint16_t context_problem; /* enum minidump_problem: why its context gives no registers; 0 if it gives some */
     uint8_t has_exception;
-    uint8_t is_sent; /* a process sent the signal; has_sender tells whether it is known */
+    uint8_t is_sent; /* a process sent the signal; has_sender tells whether its id is known */
     uint8_t has_sender;
     uint8_t has_sender_user; /* 0 where the record doesn't have it, as in an address of 32 bits */
 };
@@ -241,7 +241,8 @@ struct minidump_crash {
     struct minidump_facts facts;         /* of the address that the crash is about */
     uint64_t uptime;     /* for how many seconds the process had run when the dump was written */
     size_t thread_index; /* of the thread that crashed, in the table of threads */
-    size_t damage_count; /* how many things of the dump are there and can't be read; minidump_crash_json names them */
+    size_t damage_count; /* how many streams, exceptions, contexts and stacks are there and can't be read;
+                          * minidump_crash_json names them */
     size_t register_size; /* how many bytes a register has */
     size_t frame_count;   /* the sizes of the whole tables, and of all texts */
     size_t register_count;
@@ -270,7 +271,8 @@ struct minidump_crash {
 /* A frame of a stack. */
 struct minidump_frame {
     uint64_t address;           /* by which it is looked up: for a return address the one below it, within the call;
-                                 * on ARM of 32 bits bit 0 of the return address is cleared first */
+                                 * on ARM of 32 bits bit 0 of the return address is cleared first; the return
+                                 * address itself where no address lies below it */
     uint64_t instruction;       /* of the context, or else the return address of the frame before */
     uint64_t stack_pointer;     /* where no context has it, the address after the return address */
     uint64_t frame_pointer;     /* 0 if it isn't known */
@@ -344,7 +346,8 @@ uint32_t minidump_crash(const uint8_t *bytes, size_t len, const uint8_t *names, 
 
 /* Reads the crash of a dump, as minidump_crash does, and writes its JSON text to the front of out, as far as it fits, and the
  * size of the whole text to *size: the line of `whocrashed --json` without path, environment and line feed, with at most
- * frames frames of a thread. With 0 frames it has no registers. */
+ * frames frames of a thread. With 0 frames it lacks the registers of the thread that crashed, too: its first frame has
+ * them. */
 uint32_t minidump_crash_json(const uint8_t *bytes, size_t len, const uint8_t *names, size_t names_len, size_t scan,
                              size_t frames, uint8_t *out, size_t out_len, size_t *size, uint64_t *line);
 

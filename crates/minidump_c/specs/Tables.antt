@@ -13,6 +13,7 @@ use Rattle.minidump_c.specs.Spans.{bit, flag, span_after, text_in}
 abbrev pub register_row : List ℕ → List ℕ × ℕ → RegisterRow
 register_row before r = record { value = r.1; name = span_after before r.0 }
 
+-- the texts before a register, and after them its name
 abbrev pub with_register : List ℕ → List ℕ × ℕ → List ℕ
 with_register before r = before ++ r.0
 
@@ -32,6 +33,7 @@ thread_row before t = record {
   is_listed = bit t.is_listed;
 }
 
+-- the texts before a thread, and after them its own
 abbrev pub with_thread : List ℕ → ThreadValue → List ℕ
 with_thread before t = before ++ text_in t.name ++ text_in t.last_error
 
@@ -47,6 +49,7 @@ module_row before m = record {
   debug_id = span_after (before ++ m.path ++ text_in m.version ++ text_in m.code_id ++ text_in m.debug_file) (text_in m.debug_id);
 }
 
+-- the texts before a module, and after them its own
 abbrev pub with_module : List ℕ → LoadedValue → List ℕ
 with_module before m =
     before ++ m.path ++ text_in m.version ++ text_in m.code_id ++ text_in m.debug_file ++ text_in m.debug_id
@@ -60,5 +63,6 @@ unloaded_row before m = record {
   code_id = span_after (before ++ m.path) (text_in m.code_id);
 }
 
+-- the texts before a module that was unloaded, and after them its own
 abbrev pub with_unloaded : List ℕ → UnloadedModuleValue → List ℕ
 with_unloaded before m = before ++ m.path ++ text_in m.code_id

@@ -15,17 +15,18 @@ use crash::{Access, ContextProblem, CrashException, Sender};
 pub struct ExceptionRow {
     /// The address at which it happened, as its record has it.
     pub address: u64,
-    /// The address of the record of another exception, during which it happened.
+    /// The address of the record of another exception, during which it happened; 0 if there is
+    /// none.
     pub nested: u64,
     /// The parameters of its record, as far as 15 fit, with zeros after them.
     pub parameters: [u64; 15],
     /// The id of the thread on which it happened.
     pub thread: u32,
-    /// The code.
+    /// The code: on Linux and Android the number of the signal.
     pub code: u32,
-    /// The flags.
+    /// The flags: on Linux and Android the `si_code` of the signal.
     pub flags: u32,
-    /// The number of parameters.
+    /// The number of parameters, at most 15.
     pub parameter_count: u32,
     /// The id of the process that sent the signal.
     pub sender: u32,
@@ -39,7 +40,7 @@ pub struct ExceptionRow {
     pub has_exception: u8,
     /// 1 if a process sent the signal, else 0.
     pub is_sent: u8,
-    /// 1 if that process is known, else 0.
+    /// 1 if the id of that process is known, else 0.
     pub has_sender: u8,
     /// 1 if the user of that process is known, else 0.
     pub has_sender_user: u8,

@@ -12,7 +12,7 @@ use crash::{AddressFacts, AddressMemory, RegionState};
 pub struct FactsRow {
     /// The address.
     pub address: u64,
-    /// The same if it is near 0.
+    /// The same if it is below 0x10000: an offset from a null pointer.
     pub null_offset: u64,
     /// The offset of the address in its module.
     pub module_offset: u64,
@@ -22,15 +22,16 @@ pub struct FactsRow {
     pub unloaded: usize,
     /// The index of the last thread whose stack contains it.
     pub stack_of: usize,
-    /// The index of the last thread whose stack begins a little above it.
+    /// The index of the last thread whose stack begins above it, by at most 4,096 bytes.
     pub below_stack: usize,
-    /// The state of the memory that contains it, as a number; 0 of an unknown one.
+    /// The state of the memory that contains it: 1 for free, 2 for reserved, 3 for committed; 0 if
+    /// it isn't known.
     pub memory_state: u32,
     /// 1 if there is an address, else 0.
     pub has_address: u8,
-    /// 1 if it is near 0, else 0.
+    /// 1 if it is below 0x10000, else 0.
     pub has_null_offset: u8,
-    /// 1 if the processor can access it, else 0.
+    /// 0 for an address of x86-64 whose bits 47 to 63 differ, and if there is no address; else 1.
     pub is_canonical: u8,
     /// 1 if a module contains it, else 0.
     pub has_module: u8,
@@ -38,9 +39,9 @@ pub struct FactsRow {
     pub has_unloaded: u8,
     /// 1 if a stack contains it, else 0.
     pub has_stack_of: u8,
-    /// 1 if a stack begins a little above it, else 0.
+    /// 1 if a stack begins above it, by at most 4,096 bytes, else 0.
     pub has_below_stack: u8,
-    /// 1 if it is known which memory contains it, else 0.
+    /// 1 if the dump has information on the memory that contains it, else 0.
     pub has_memory: u8,
     /// 1 if that memory may be read, else 0.
     pub is_readable: u8,

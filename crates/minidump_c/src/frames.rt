@@ -12,9 +12,10 @@ use std::alloc::{AllocError, Global};
 #[repr(C)]
 #[derive(Clone, Copy)]
 pub struct FrameRow {
-    /// The address by which it is looked up: of the context the instruction pointer; of a caller or a
-    /// candidate the address below its return address, which lies in the call. On ARM of 32 bits bit 0
-    /// of the return address is cleared first. Where that is 0, it is the return address itself.
+    /// The address by which it is looked up: of the context the instruction pointer; of a caller or
+    /// a candidate the address below its return address, which lies in the call. On ARM of 32 bits
+    /// bit 0 of the return address is cleared first. If no address lies below, this is the return
+    /// address.
     pub address: u64,
     /// The instruction pointer of the context, or else the return address of the frame before.
     pub instruction: u64,

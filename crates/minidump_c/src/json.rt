@@ -12,7 +12,8 @@ use std::alloc::Global;
 
 /// Reads the crash of a minidump, with the names of codes that the text `names` lists and at most
 /// `scan` candidates, and writes its JSON text to the front of `out`, as far as it fits, and the
-/// size of the whole text to `size`. At most `frames` frames of a thread are written.
+/// size of the whole text to `size`. The text has no path, no environment, and at most `frames`
+/// frames of a thread. With 0 frames it lacks the registers of the thread that crashed, too.
 #[unsafe(no_mangle)]
 pub extern "C" fn minidump_crash_json(
     alloc: Global,

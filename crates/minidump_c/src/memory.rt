@@ -42,7 +42,7 @@ pub extern "C" fn minidump_memory_at(
 }
 
 /// Copies the bytes of memory from the address on to the front of `out`, as far as they fit, and
-/// writes to `count` how many bytes the region has from the address on.
+/// writes to `count` how many bytes the region has from the address on: 0 if no region contains it.
 #[unsafe(no_mangle)]
 pub extern "C" fn minidump_read_memory(
     alloc: Global,

@@ -5,13 +5,13 @@ ghost use Rattle.minidump_c.specs.Spans.{bit, flag, rows_after, span_after, text
 
 use std::alloc::{AllocError, Global};
 
-/// Where a text lies in the buffer of texts. That of an absent text has no bytes.
+/// Where a text lies in the buffer of texts. An absent text has a `len` of 0.
 #[repr(C)]
 #[derive(Clone, Copy)]
 pub struct Span {
-    /// How many bytes stand before it.
+    /// The offset of its first byte.
     pub offset: usize,
-    /// How many bytes it has.
+    /// The number of its bytes.
     pub len: usize,
 }
 

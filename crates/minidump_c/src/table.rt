@@ -12,8 +12,8 @@ use crate::text::fill;
 use minidump::{Error, Minidump, UnifiedMemoryList};
 use std::alloc::{AllocError, Global};
 
-/// Writes the kept regions of memory, ascending by address, to the front of `regions`, as far as
-/// they fit, and their number to `count`.
+/// Writes the regions of memory that `minidump_memory_at` finds, ascending by address, to the front
+/// of `regions`, as far as they fit, and their number to `count`.
 #[unsafe(no_mangle)]
 pub extern "C" fn minidump_memory_table(
     alloc: Global,

@@ -31,7 +31,7 @@ amd64_values c =
     c.rax ∷ c.rdx ∷ c.rcx ∷ c.rbx ∷ c.rsi ∷ c.rdi ∷ c.rbp ∷ c.rsp ∷
     c.r8 ∷ c.r9 ∷ c.r10 ∷ c.r11 ∷ c.r12 ∷ c.r13 ∷ c.r14 ∷ c.r15 ∷ c.rip ∷ []
 
--- the context with all of its registers at 0
+-- the context with the registers of the table at 0
 unfoldable pub amd64_rest : CONTEXT_AMD64 → CONTEXT_AMD64
 amd64_rest c = record c {
   rax = 0;

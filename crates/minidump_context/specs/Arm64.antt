@@ -55,11 +55,10 @@ arm64_values c = map (slice_index c.iregs) (range_with_len 0 31) ++ c.sp ∷ c.p
 unfoldable pub arm64_rest : CONTEXT_ARM64 → CONTEXT_ARM64
 arm64_rest c = record c { iregs = []; sp = 0; pc = 0 }
 
--- the same of Breakpad's first layout
+-- the values in Breakpad's old layout, in the order of the table
 unfoldable pub arm64_old_values : CONTEXT_ARM64_OLD → List ℕ
 arm64_old_values c = map (slice_index c.iregs) (range_with_len 0 31) ++ c.sp ∷ c.pc ∷ []
 
--- Breakpad's MDRawContextARM64_Old but its general registers: the flags, the status and the float
--- registers
+-- the context in Breakpad's old layout without the values of its registers
 unfoldable pub arm64_old_rest : CONTEXT_ARM64_OLD → CONTEXT_ARM64_OLD
 arm64_old_rest c = record c { iregs = []; sp = 0; pc = 0 }

@@ -59,8 +59,8 @@ unfoldable pub processor_context : {C : Type 0} → Layout C → ℕ → (C → 
 processor_context layout processor flags order bytes =
     of_processor processor flags (record_at layout order 0 bytes)
 
--- the context of an architecture at the start of the bytes; the flags of ARM64's first layout are
--- the low 32 bits of its number
+-- the context of an architecture at the start of the bytes. The flags of ARM64's old layout are a
+-- number of 64 bits, of which the low 32 count
 abbrev pub context_of : Endian → List ℕ → Option ProcessorArchitecture
     → Result MinidumpRawContext ContextError
 context_of order bytes (Some PROCESSOR_ARCHITECTURE_INTEL) =

@@ -92,7 +92,8 @@ x86_text c =
     ++ (bytes_line (codes "  extended_registers[512]      = 0x") c.extended_registers
     ++ line_end))))
 
--- the lines of all registers
+-- the lines of the fields from P1Home to Rip. The fields after Rip, the float and vector registers
+-- among them, have none
 unfoldable pub amd64_lines : CONTEXT_AMD64 → List ℕ
 amd64_lines c = concat (
     register_line (codes "  p1_home       = ") c.p1_home

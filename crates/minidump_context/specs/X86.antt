@@ -21,7 +21,7 @@ x86_registers =
 unfoldable pub x86_values : CONTEXT_X86 → List ℕ
 x86_values c = c.eip ∷ c.esp ∷ c.ebp ∷ c.ebx ∷ c.esi ∷ c.edi ∷ c.eax ∷ c.ecx ∷ c.edx ∷ c.eflags ∷ []
 
--- the context with all of its registers at 0
+-- the context with the registers of the table at 0
 unfoldable pub x86_rest : CONTEXT_X86 → CONTEXT_X86
 x86_rest c =
     record c {

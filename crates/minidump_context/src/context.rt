@@ -104,7 +104,7 @@ impl MinidumpContext {
         with_context!(&self.raw, context => context.get_register_always(reg).to_u64())
     }
 
-    /// Returns the value of a register, or `None` if it isn't valid.
+    /// Returns the value of a register, or `None` if it isn't valid or `reg` is no register's name.
     pub fn get_register(&self, reg: &str) -> Option<u64>
         ensures { result ≡ valid_value_in self.now.valid (registers_of self.now.raw) reg.now }
     {

@@ -148,7 +148,7 @@ pub trait CpuContext: CpuRegisterNames + Record {
         self.register_at(index)
     }
 
-    /// Returns the value of a register, or `None` if it isn't valid.
+    /// Returns the value of a register, or `None` if it isn't valid or `reg` is no register's name.
     final fn get_register(
         &self,
         reg: &str,

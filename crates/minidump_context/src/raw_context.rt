@@ -10,11 +10,15 @@ use minidump_format::format::{
 /// The context of a thread, in the record of its processor.
 #[derive(Clone, Copy, Debug)]
 pub enum MinidumpRawContext {
+    /// x86: Microsoft's `CONTEXT`, of 716 bytes.
     X86(CONTEXT_X86),
+    /// x86-64: Microsoft's `CONTEXT`, of 1232 bytes.
     Amd64(CONTEXT_AMD64),
+    /// ARM: Breakpad's `MDRawContextARM`, of 368 bytes.
     Arm(CONTEXT_ARM),
+    /// ARM64: Microsoft's `ARM64_NT_CONTEXT`, of 912 bytes.
     Arm64(CONTEXT_ARM64),
-    /// ARM64, in Breakpad's first layout.
+    /// ARM64 in Breakpad's old layout: `MDRawContextARM64_Old`, of 796 bytes.
     OldArm64(CONTEXT_ARM64_OLD),
 }
 

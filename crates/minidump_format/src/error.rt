@@ -30,12 +30,13 @@ pub enum Error {
     /// malformed.
     #[error("Error reading stream")]
     StreamReadFailure,
-    /// The length of a list is not the one that its count asks for.
+    /// The count of a list doesn't fit the length of the stream, or asks for more bytes than the
+    /// file has.
     #[error("Stream size mismatch: expected {expected} bytes, found {actual} bytes")]
     StreamSizeMismatch {
-        /// The length that the count gives.
+        /// The number of bytes that the count asks for.
         expected: usize,
-        /// The length that there is.
+        /// The number of bytes of the stream, or of the file.
         actual: usize,
     },
     /// No entry of the directory has the type.
@@ -53,7 +54,7 @@ pub enum Error {
     /// A module's name or its CodeView record is malformed.
     #[error("Error reading CodeView data")]
     CodeViewReadFailure,
-    /// An element has an unknown type.
+    /// An element has an unknown type. No call of this library returns it.
     #[error("Uknown element type")]
     UknownElementType,
     /// An allocation failed.

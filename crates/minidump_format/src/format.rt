@@ -1,5 +1,6 @@
-//! The records of a minidump, by the names of Microsoft's, Breakpad's and Crashpad's headers. All
-//! are packed, and in the byte order of the file.
+//! The records of a minidump, and the enumerations and sets of flags of their fields, as
+//! Microsoft's, Breakpad's, Crashpad's and Mozilla's headers define them. Records are packed, and
+//! in the byte order of the file.
 mod assertion;
 mod breakpad;
 mod code_view;

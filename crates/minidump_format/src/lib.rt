@@ -1,9 +1,11 @@
 //! The records of a minidump, the types of its streams, the errors of reading one, and the calls
 //! that print.
 //!
-//! - [`format`] has the records, enumerations and sets of flags, by the names of Microsoft's,
-//!   Breakpad's and Crashpad's headers. Each record is a `minidump_bytes::Record`.
-//! - [`Error`] is the one error of all crates. [`stream_vendor`] names the vendor of a stream type.
+//! - [`format`] has the records, enumerations and sets of flags that Microsoft's, Breakpad's,
+//!   Crashpad's and Mozilla's headers define. Each record of a fixed size is a
+//!   `minidump_bytes::Record`.
+//! - [`Error`] is the error of reading a file or a stream, and of printing. [`stream_vendor`] names
+//!   the vendor of a stream type.
 //! - [`put_text`] prints a text, [`print_line_end`] a line feed. A value that appends its text to
 //!   bytes is [`Pushed`]: [`print_item`] prints it, and [`print_all`] prints what an iterator
 //!   yields, in blocks. [`print_numbered`] prints a [`Heading`] with the number of items of a
@@ -18,7 +20,8 @@
 //!
 //! # What is proved
 //!
-//! - Each record is its table of offsets and widths in `specs/`: `Record::decode` of each.
+//! - Each record is its table of offsets and widths in `specs/`: `Record::decode` of each,
+//!   `laws::records_are_as_defined`.
 //! - The bytes at a location are those of the file from its RVA on, and reading them counts one
 //!   step: `MINIDUMP_LOCATION_DESCRIPTOR::bytes_in`.
 //! - The enumerations have the format's numbers: `MINIDUMP_STREAM_TYPE::from_u32`,

@@ -86,7 +86,8 @@ pub fn print_numbered<'a, T: Pushed, W: Write>(
 }
 
 /// Prints a heading with a count, and then the values that an iterator yields with their indices,
-/// each after a line of the name and its index.
+/// each after a line of the name and its index. `count` has to be the number of the values, and the
+/// indices have to count from 0; else the text is unspecified.
 pub fn print_numbered_all<T: Pushed + Drop, I: Iterator<Item = (usize, T)> + Drop, W: Write>(
     heading: &str,
     name: &str,
@@ -119,7 +120,9 @@ pub fn print_numbered_all<T: Pushed + Drop, I: Iterator<Item = (usize, T)> + Dro
 /// A heading that ends with a count, and an empty line.
 #[derive(Drop)]
 pub struct Heading<'a> {
+    /// The words before the count.
     pub words: &'a str,
+    /// The count.
     pub count: usize,
 }
 
@@ -138,8 +141,11 @@ impl<'a> Pushed for Heading<'a> {
 /// A value with its index in a list: the line `name[index]`, and then the value's text.
 #[derive(Drop)]
 pub struct Numbered<'a, T> {
+    /// The name before the index.
     pub name: &'a str,
+    /// The index of the value.
     pub index: usize,
+    /// The value.
     pub value: T,
 }
 

@@ -6,8 +6,8 @@
 //!   whatever the address, but for the last level, where the tree may lack the slot that the search
 //!   comes to. That pays at every size.
 //! - Entries have 16 bytes where all ranges of the list fit ([`Small`](crate::stored::Small)), so
-//!   four stand in a cache line. Entries of 24 bytes ([`Wide`](crate::stored::Wide)) take a tenth longer at 1,000
-//!   regions, and a third longer from 100,000 on.
+//!   four stand in a cache line. Entries of 24 bytes ([`Wide`](crate::stored::Wide)) take a tenth
+//!   longer at 1,000 regions, and a third longer from 100,000 on.
 //! - Entries three levels below are read in advance (`bits_below`), so that they come from memory
 //!   while the levels between are compared. It costs up to 4 ns below 10,000 regions, and saves a
 //!   quarter at 100,000 and almost half at a million.
@@ -68,8 +68,8 @@ fn bits_below<S: Stored>(tree: &[S], number: usize) -> u32
 // Returns the index in the list of the range that contains the address, or `None` if no range does.
 //
 // Entries are numbered from 1 in level order: the children of `number` are `2 * number` and
-// `2 * number + 1`. At most one range contains the address, and once it was met the lookup goes
-// only to the left; so it is where the lookup last went to the right.
+// `2 * number + 1`. At most one range contains the address. At that range the lookup goes to the
+// right, and below it only to the left, so it is the one where the lookup last went to the right.
 //
 // While the lookup is at a number, two of the eight entries three levels below are read, so that
 // they are there when it gets to them. What is read is below 2^31. The compiler doesn't know that,

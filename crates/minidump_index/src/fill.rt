@@ -19,7 +19,8 @@ pub fn full(len: usize) -> usize
     1 << (usize::BITS - len.leading_zeros())
 }
 
-// Returns the slot of number `k`, counted from 1, in the walk of a full tree.
+// Returns the slot of the entry numbered `k`, from 1, in the walk of a full tree. `total` is one
+// more than the number of its slots.
 pub fn slot_at(total: usize, k: usize) -> usize
     requires starts { 0 < k }
     requires within { k < total }
@@ -29,7 +30,7 @@ pub fn slot_at(total: usize, k: usize) -> usize
     ((total + k) >> k.trailing_zeros() >> 1) - 1
 }
 
-// Fills a tree with the same number of ascending entries.
+// Fills a tree with as many entries as it has slots, so that its walk yields them in their order.
 fn put_entries<S: Stored>(tree: &mut Vec<S>, entries: &[S])
     requires { length tree.old.items ≡ length entries.now }
     ensures { walk (map S.value tree.new.items) ≡ map S.value entries.now }
@@ -57,8 +58,8 @@ fn follows(before: Option<Range>, range: Range) -> bool
 }
 
 // Fills a tree with the ranges of regions as they stand, if each region has a range that fits and
-// that ends before the next one starts. Tells whether it did so; if not, the entries of the tree are
-// unspecified.
+// that ends before the next one starts. Tells whether it did so; if not, the entries of the tree
+// are unspecified.
 fn put_in_order<S: Stored, R: Region>(tree: &mut Vec<S>, regions: &[R]) -> bool
     requires { length tree.old.items ≡ length regions.now }
     ensures { IsTrue result

@@ -32,7 +32,7 @@ is_all_zeros id = list_all (λ b. b == 0) id
 unfoldable pub pad_to_16 : List ℕ → List ℕ
 pad_to_16 id = take 16 id ++ replicate (16 - length id) 0
 
--- by the system, the time stamp, the size and the CodeView record
+-- the code identifier, by the system, the time stamp, the size and the CodeView record
 abbrev pub code_identifier : Option Os → ℕ → ℕ → Option View → Option (List ℕ)
 code_identifier os stamp size (Some (pdb70 s g age name)) =
     Some (if is_apple os then encode_lower (guid_bytes g) else stamp_form stamp size)
@@ -43,7 +43,7 @@ code_identifier os stamp size (Some (elf s id)) =
 code_identifier os stamp size (Some (unknown bytes)) = None
 code_identifier os stamp size None = if is_windows os then Some (stamp_form stamp size) else None
 
--- by the CodeView record; a build id is a GUID in the byte order of the dump
+-- the debug identifier, by the CodeView record; a build id is a GUID in the byte order of the dump
 abbrev pub debug_identifier : Endian → Option View → Option DebugId
 debug_identifier order (Some (pdb70 s g age name)) =
     if is_nil_bytes (guid_bytes g) then None else Some (by_guid (guid_bytes g) age)
@@ -54,7 +54,7 @@ debug_identifier order (Some (elf s id)) =
 debug_identifier order (Some (unknown bytes)) = None
 debug_identifier order None = None
 
--- the name in the CodeView record; an ELF file is its own debug file
+-- the debug file, by the name in the CodeView record; an ELF file is its own debug file
 abbrev pub debug_file : List ℕ → Option View → Option (List ℕ)
 debug_file own (Some (pdb70 s g age name)) = Some (lossy_name name)
 debug_file own (Some (pdb20 s offset signature age name)) = Some (lossy_name name)

@@ -14,8 +14,9 @@ pub struct CodeId {
 }
 
 impl CodeId {
-    /// Makes the identifier of the hexadecimal digits in a text, in lower case; other characters are left
-    /// out. The only error is [`Error::OutOfMemory`], which comes only if there is a digit.
+    /// Makes the identifier of the hexadecimal digits in a text, in lower case; other characters
+    /// are left out. The only error is [`Error::OutOfMemory`], which comes only if there is a
+    /// digit.
     pub fn new(alloc: Global, text: &str) -> Result<CodeId, Error>
         ensures digits { IfOk result (λ id. text_of id ≡ kept_digits text.now) }
         ensures memory { IsOkUnless result Error.OutOfMemory }
@@ -26,8 +27,8 @@ impl CodeId {
         })
     }
 
-    /// Makes the identifier of bytes, two digits each. The only error is [`Error::OutOfMemory`], which comes
-    /// only if there is a byte.
+    /// Makes the identifier of bytes, two digits each. The only error is [`Error::OutOfMemory`],
+    /// which comes only if there is a byte.
     pub fn from_binary(alloc: Global, bytes: &[u8]) -> Result<CodeId, Error>
         ensures digits { IfOk result (λ id. text_of id ≡ encode_lower bytes.now) }
         ensures memory { IsOkUnless result Error.OutOfMemory }
@@ -60,7 +61,8 @@ impl CodeId {
         self.text.as_str()
     }
 
-    /// Copies the identifier. The only error is [`Error::OutOfMemory`], which comes only if it has a digit.
+    /// Copies the identifier. The only error is [`Error::OutOfMemory`], which comes only if it has
+    /// a digit.
     pub fn try_clone(&self, alloc: Global) -> Result<CodeId, Error>
         ensures same { IfOk result (λ id. text_of id ≡ text_of self.now) }
         ensures memory { IsOkUnless result Error.OutOfMemory }

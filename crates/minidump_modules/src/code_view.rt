@@ -21,10 +21,13 @@ use std::alloc::{AllocError, Global};
 /// The CodeView record of a module, which says what its debug file is.
 #[derive(Drop)]
 pub enum CodeView {
+    /// A program database identified by a time stamp: Microsoft's record `NB10`.
     Pdb20(CV_INFO_PDB20),
+    /// A program database identified by a GUID: Microsoft's record `RSDS`.
     Pdb70(CV_INFO_PDB70),
+    /// An ELF file identified by its build id: Breakpad's `MDCVInfoELF`.
     Elf(CV_INFO_ELF),
-    /// A record of another kind, with its signature.
+    /// The bytes of a record with another signature, its signature among them.
     Unknown(Vec<u8>),
 }
 

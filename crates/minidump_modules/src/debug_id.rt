@@ -8,8 +8,8 @@ use std::fmt;
 use std::marker::Model;
 use uuid::Uuid;
 
-/// The identifier of a module's debug file: a GUID, or the time stamp of an old program database, each
-/// with an appendix, as its age.
+/// The identifier of a module's debug file: a GUID and an appendix, such as the age of a program
+/// database, or the time stamp and the age of an old one.
 #[derive(Clone, Copy, Debug, PartialEq, Eq)]
 pub struct DebugId {
     kind: Kind,
@@ -22,8 +22,8 @@ enum Kind {
 }
 
 impl DebugId {
-    /// Reads Breakpad's form: the 32 hexadecimal digits of a GUID, then 1 to 8 of the appendix. Returns
-    /// `None` for any other text.
+    /// Reads Breakpad's form: the 32 hexadecimal digits of a GUID, then 1 to 8 of the appendix.
+    /// Returns `None` for any other text.
     pub fn from_breakpad(text: &str) -> Option<DebugId>
         ensures { result ≡ from_breakpad text.now }
     {
@@ -73,8 +73,8 @@ impl Exact for DebugId {
     ghost exact = { Prim.search rules };
 }
 
-/// Formats a GUID in lower case with hyphens, and a time stamp as eight digits in upper case; an appendix
-/// other than 0 follows a hyphen.
+/// Formats a GUID in lower case with hyphens, and a time stamp as eight digits in upper case; an
+/// appendix other than 0 follows a hyphen.
 impl fmt::Display for DebugId {
     ghost use Rattle.std.specs.Prelude.{Some};
     ghost use Rattle.minidump_modules.specs.DebugId.{debug_id_text};
@@ -117,8 +117,8 @@ impl Model for BreakpadFormat {
     ghost inverse = { λ id. record { id = id } };
 }
 
-/// Formats a GUID as its 32 digits and a time stamp as its digits, both in upper case; the appendix or the
-/// age follows in lower case, also where it is 0.
+/// Formats a GUID as its 32 digits and a time stamp as its digits, both in upper case; the appendix
+/// or the age follows in lower case, also where it is 0.
 impl fmt::Display for BreakpadFormat {
     ghost use Rattle.std.specs.Prelude.{Some};
     ghost use Rattle.minidump_modules.specs.DebugId.{breakpad_text};

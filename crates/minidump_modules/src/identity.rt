@@ -23,8 +23,9 @@ pub trait Module {
     fn code_file(&self) -> &str
         ensures { result.now ≡ (identity self.now).code_file };
 
-    /// Returns the identifier of its code, or `None` if it has none. The only error is
-    /// [`Error::OutOfMemory`], and only if it has one.
+    /// Returns the identifier of its code: the time stamp and the size, the GUID of its debug file
+    /// on macOS and iOS, or the build id of an ELF file. Returns `Ok(None)` if it has none. The
+    /// only error is [`Error::OutOfMemory`], and only if it has one.
     fn code_identifier(&self, alloc: Global) -> Result<Option<CodeId>, Error>
         ensures means { IfOk result (λ id. option_map text_of id
             ≡ (identity self.now).code_identifier) }
@@ -43,8 +44,8 @@ pub trait Module {
     fn debug_identifier(&self) -> Option<DebugId>
         ensures { result ≡ (identity self.now).debug_identifier };
 
-    /// Returns the version, or `None` if it has none. The only error is [`Error::OutOfMemory`], and only if it
-    /// has one.
+    /// Returns the version, four numbers joined by dots, or `None` if it has none. The only error
+    /// is [`Error::OutOfMemory`], and only if it has one.
     fn version(&self, alloc: Global) -> Result<Option<String>, Error>
         ensures means { IfOk result (λ text. option_map string_bytes text
             ≡ (identity self.now).version) }

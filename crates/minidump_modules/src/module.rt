@@ -39,8 +39,8 @@ pub struct MinidumpModule {
     os: Option<Os>,
 }
 
-// What the identifier of a module's code is made of: its time stamp and its size, the GUID of its debug
-// file, or its build id.
+// What the identifier of a module's code is made of: its time stamp and its size, the GUID of its
+// debug file, or its build id.
 #[derive(Clone, Copy)]
 pub(crate) enum CodeSource<'a> {
     Stamp,
@@ -66,8 +66,9 @@ impl MinidumpModule {
     }
 
     /// Reads the name and the CodeView record of an entry from the bytes of the file. Returns
-    /// `CodeViewReadFailure` if one of them is malformed, `OutOfMemory` if an allocation fails: only if the
-    /// name has a code unit, or the record has a name, a build id or an unknown kind.
+    /// `CodeViewReadFailure` if one of them is malformed, and `OutOfMemory` if an allocation fails,
+    /// which can happen only if the name has a code unit, or the record has a name, a build id or
+    /// an unknown kind.
     pub fn read(
         alloc: Global,
         raw: MINIDUMP_MODULE,
@@ -119,7 +120,8 @@ impl MinidumpModule {
         })
     }
 
-    /// Returns the byte order of the dump, by which the build id of an ELF file gives its identifier.
+    /// Returns the byte order of the dump, by which the build id of an ELF file gives its
+    /// identifier.
     pub fn endian(&self) -> Endian
         ensures { result ≡ (module_of self.now).order }
     {
@@ -133,9 +135,9 @@ impl MinidumpModule {
         self.os
     }
 
-    /// Returns the offset of `address` from the base address, or `None` if the address is below the base address
-    /// or the offset is not below the size. A module that would go on beyond the last address has offsets too,
-    /// though no lookup finds it.
+    /// Returns the offset of `address` from the base address, or `None` if the address is below the
+    /// base address or the offset is not below the size. A module that would go on beyond the last
+    /// address has offsets too, though no lookup finds it.
     pub fn offset_of(&self, address: u64) -> Option<u64>
         ensures { result ≡ (if nat_le self.now.raw.base_of_image address
             && nat_lt address (self.now.raw.base_of_image + self.now.raw.size_of_image)

@@ -62,7 +62,8 @@ impl<'a> Iterator for UnloadedModulesByAddress<'a> {
     }
 }
 
-/// An iterator over the unloaded modules that contain an address, by start, then by end, then by index.
+/// An iterator over the unloaded modules that contain an address, by start, then by end, then by
+/// index.
 #[derive(Drop)]
 pub struct ModulesAtAddress<'a> {
     order: &'a [IndexedRange],

@@ -48,8 +48,8 @@ impl MinidumpUnloadedModule {
         })
     }
 
-    /// Reads the name of an entry from the bytes of the file. Returns `DataError` if it is malformed,
-    /// `OutOfMemory` if an allocation fails.
+    /// Reads the name of an entry from the bytes of the file. Returns `DataError` if it is
+    /// malformed, `OutOfMemory` if an allocation fails.
     pub fn read(
         alloc: Global,
         raw: MINIDUMP_UNLOADED_MODULE,
@@ -88,7 +88,8 @@ impl MinidumpUnloadedModule {
         }
     }
 
-    /// Copies the module. The only error is [`Error::OutOfMemory`], which comes only if its name isn't empty.
+    /// Copies the module. The only error is [`Error::OutOfMemory`], which comes only if its name
+    /// isn't empty.
     pub fn try_clone(&self, alloc: Global) -> Result<MinidumpUnloadedModule, Error>
         ensures same { IfOk result (λ m. unloaded_of m ≡ unloaded_of self.now) }
         ensures memory { IsOkUnless result Error.OutOfMemory }

@@ -50,8 +50,8 @@ impl MinidumpUnloadedModuleList {
         }
     }
 
-    /// Makes a list of modules. The only error is [`Error::OutOfMemory`], and only if there is a module;
-    /// after it they are dropped.
+    /// Makes a list of modules. The only error is [`Error::OutOfMemory`], and only if there is a
+    /// module; after it they are dropped.
     pub fn from_modules(
         alloc: Global,
         modules: Vec<MinidumpUnloadedModule>,
@@ -88,14 +88,16 @@ impl MinidumpUnloadedModuleList {
         self.modules.iter()
     }
 
-    /// Returns an iterator over the modules that contain `address`, by start, then by end, then by index.
+    /// Returns an iterator over the modules that contain `address`, by start, then by end, then by
+    /// index.
     pub fn modules_at_address(&self, address: u64) -> ModulesAtAddress<'_>
         ensures { AreAt (unloaded_module_list_of self.now) address (map unloaded_of result) }
     {
         ModulesAtAddress::new(&self.order, &self.modules, address)
     }
 
-    /// Returns an iterator over the modules that have a range, by start, then by end, then by index.
+    /// Returns an iterator over the modules that have a range, by start, then by end, then by
+    /// index.
     pub fn by_addr(&self) -> UnloadedModulesByAddress<'_>
         ensures { IsByStart (unloaded_module_list_of self.now) (map unloaded_of result) }
     {
@@ -129,8 +131,8 @@ impl<'l> IntoIterator for &'l MinidumpUnloadedModuleList {
     }
 }
 
-/// Microsoft's `MINIDUMP_UNLOADED_MODULE_LIST`: an extended list of entries. Returns `ModuleReadFailure` if an
-/// entry has no addresses, `DataError` if a name is malformed.
+/// Reads Microsoft's `MINIDUMP_UNLOADED_MODULE_LIST`: an extended list of entries. Returns
+/// `ModuleReadFailure` if an entry has no addresses, `DataError` if a name is malformed.
 impl<'a> MinidumpStream<'a> for MinidumpUnloadedModuleList {
     ghost use Rattle.std.specs.Prelude.{List};
     ghost use Rattle.minidump_modules.specs.UnloadedModule.{UnloadedValue};

@@ -89,7 +89,7 @@ families =
     LinuxSigtrap ∷ LinuxSigbus ∷ LinuxSigfpe ∷ LinuxSigsegv ∷ LinuxSigsys ∷ Windows ∷ WinError ∷
     WinErrorFacility ∷ NtStatus ∷ FastFail ∷ WindowsAccess ∷ WindowsInPageError ∷ []
 
--- the first of these families that has a name
+-- the first of these families whose name this is
 abbrev pub find_family : List CodeFamily → List ℕ → Option CodeFamily
 find_family [] text = None
 find_family (f ∷ rest) text =
@@ -111,7 +111,7 @@ code_in text =
 abbrev pub is_outside : ℕ → Bool
 is_outside b = is_white b || b == 35
 
--- the name of a code: some bytes that are UTF-8, none of them outside
+-- the name of a code: one byte or more that are UTF-8, none of them outside
 unfoldable pub name_in : List ℕ → Option (List ℕ)
 name_in text =
     if nat_lt 0 (length text) && not (list_any is_outside text) then utf8_text text else None

@@ -18,8 +18,8 @@ pub struct Listing<'t> {
     pub name: &'t str,
 }
 
-/// Reads the code that a line lists, without the line feed that ends it, or returns `None` if it
-/// lists none: a comment, an empty line, or a malformed one.
+/// Reads the code that a line lists. The line is passed without the line feed that ends it. Returns
+/// `None` if it lists no code: it is a comment, empty, or malformed.
 #[tactic(auto, unfolding(crate::specs::NameLine::listing_in))]
 pub fn listing_in(line: &[u8]) -> Option<Listing<'_>>
     ensures { option_map listing_of result ≡ listing_in line.now }

@@ -32,9 +32,10 @@ impl<'t> Model for NameTable<'t> {
 impl<'t> NameTable<'t> {
     /// Reads a text of names. A line is a code, `FAMILY NUMBER NAME` with one space between the
     /// parts; a comment, which begins with `#`; or empty. FAMILY is the name of a [`CodeFamily`].
-    /// NUMBER is below 2^32, in decimal, or in hexadecimal after `0x`. NAME is UTF-8 without ASCII
-    /// white space and without `#`. The numbers of a family ascend strictly. A line ends at a line
-    /// feed, so a carriage return before it makes the line malformed, unless it is a comment.
+    /// NUMBER is below 2^32, in decimal, or in hexadecimal after `0x`. NAME is one byte or more of
+    /// UTF-8, without ASCII white space and without `#`. The numbers of a family ascend strictly. A
+    /// line ends at a line feed, so a carriage return before it makes the line malformed, unless it
+    /// is a comment.
     ///
     /// Returns the error of the first line that breaks these rules: [`NamesError::NotALine`] if it
     /// isn't such a line, and [`NamesError::OutOfOrder`] if an earlier number of its family isn't

@@ -59,7 +59,7 @@ refine_windows names k p0 p2 (reason.WindowsNtStatus c) = first_match (
     ∷ []) (reason.WindowsNtStatus c)
 refine_windows names k p0 p2 other = other
 
--- EXCEPTION_RECORD of winnt.h
+-- the reason for an exception of Windows, by EXCEPTION_RECORD of winnt.h
 abbrev pub windows_reason : Lists → MINIDUMP_EXCEPTION → CrashReason
 windows_reason names r =
     refine_windows names r.number_parameters
@@ -68,7 +68,7 @@ windows_reason names r =
 
 -- ---- macOS and iOS
 
--- the processors with lists of their own
+-- the processor is an ARM of 64 bits
 abbrev is_arm : Cpu → Bool
 is_arm Arm64 = true
 is_arm _ = false
@@ -116,7 +116,7 @@ mac_exception_reason names cpu c f p1 p2 = first_match (
     ∷ (c == 12 && is_in names family.MacGuard (bits_of f 29 3), reason.MacGuard (bits_of f 29 3) p1 p2)
     ∷ []) (reason.MacGeneral c f)
 
--- an exception with a listed code
+-- the reason for an exception of macOS or iOS; none for an unlisted code
 abbrev pub mac_reason : Lists → Cpu → MINIDUMP_EXCEPTION → Option CrashReason
 mac_reason names cpu r =
     if is_in names family.Mac r.exception_code
@@ -138,7 +138,7 @@ linux_signal_reason names c f = first_match (
     ∷ (c == 31 && is_in names family.LinuxSigsys f, reason.LinuxSigsys f)
     ∷ []) (reason.LinuxGeneral c f)
 
--- a listed signal
+-- the reason for a signal of Linux or Android; none for an unlisted one
 abbrev pub linux_reason : Lists → MINIDUMP_EXCEPTION → Option CrashReason
 linux_reason names r =
     if is_in names family.Linux r.exception_code

@@ -1,5 +1,5 @@
--- The text of a crash reason: Darwin's kern/exc_resource.h and kern/exc_guard.h for what codes and
--- subcodes hold.
+-- The text of a crash reason. Darwin's kern/exc_resource.h and kern/exc_guard.h name what codes and
+-- subcodes hold; the bits that are read stand at each definition.
 use Rattle.std.specs.Prelude.{ℕ, ◌==◌, List, [], ◌∷◌, ◌++◌, codes, Option, Some, None, unwrap_or}
 use Rattle.std.specs.Prelude.{if◌then◌else◌}
 use Rattle.std.specs.Fmt.{decimal}
@@ -46,29 +46,36 @@ abbrev limit : Lists → ℕ → ℕ → CodeFamily → List ℕ → List ℕ
 limit names code subcode family details =
     flavor_text (name_of names family (bits_of code 58 3)) details code subcode
 
--- the limits of each resource, by the bits of the code and of the subcode
+-- a limit of CPU time: the interval in bits 7 to 31 of the code, the limit in bits 0 to 2, and what
+-- was consumed in bits 0 to 2 of the subcode
 abbrev pub cpu_limit : Lists → ℕ → ℕ → List ℕ
 cpu_limit names code subcode = limit names code subcode family.MacResourceCpu (concat (
     codes " interval: " ∷ decimal (bits_of code 7 25)
     ∷ codes "s CPU limit: " ∷ decimal (bits_of code 0 3)
     ∷ codes "% CPU consumed: " ∷ decimal (bits_of subcode 0 3) ∷ codes "%" ∷ []))
 
+-- a limit of wakeups: the interval in bits 20 to 39 of the code, the limit in bits 0 to 11, and
+-- what was observed in bits 0 to 11 of the subcode
 abbrev pub wakeups_limit : Lists → ℕ → ℕ → List ℕ
 wakeups_limit names code subcode = limit names code subcode family.MacResourceWakeups (concat (
     codes " interval: " ∷ decimal (bits_of code 20 20)
     ∷ codes "s wakeups permitted: " ∷ decimal (bits_of code 0 12)
     ∷ codes " wakeups observed: " ∷ decimal (bits_of subcode 0 12) ∷ []))
 
+-- a limit of memory: the limit in bits 0 to 12 of the code
 abbrev pub memory_limit : Lists → ℕ → ℕ → List ℕ
 memory_limit names code subcode = limit names code subcode family.MacResourceMemory (concat (
     codes " high watermark limit: " ∷ decimal (bits_of code 0 13) ∷ codes "MiB" ∷ []))
 
+-- a limit of input and output: the interval in bits 15 to 31 of the code, the limit in bits 0 to
+-- 14, and what was observed in bits 0 to 14 of the subcode
 abbrev pub io_limit : Lists → ℕ → ℕ → List ℕ
 io_limit names code subcode = limit names code subcode family.MacResourceIo (concat (
     codes " interval: " ∷ decimal (bits_of code 15 17)
     ∷ codes "s I/O limit: " ∷ decimal (bits_of code 0 15)
     ∷ codes "% I/O observed: " ∷ decimal (bits_of subcode 0 15) ∷ codes "%" ∷ []))
 
+-- a limit of threads: the limit in bits 0 to 14 of the code
 abbrev pub threads_limit : Lists → ℕ → ℕ → List ℕ
 threads_limit names code subcode = limit names code subcode family.MacResourceThreads (concat (
     codes " high watermark limit: " ∷ decimal (bits_of code 0 15) ∷ []))
@@ -94,7 +101,8 @@ abbrev pub guard : Lists → ℕ → ℕ → CodeFamily → List ℕ → List �
 guard names code subcode family details =
     codes " / " ++ flavor_text (name_of names family (bits_of code 32 29)) details code subcode
 
--- a guard that has a flavor, by its type: 1 MACH_PORT, 2 FD, 4 VN, 5 VIRT_MEMORY, 6 REJECTED_SC
+-- a guard that has a flavor, by its type: 1 MACH_PORT, 2 FD, 4 VN, 5 VIRT_MEMORY, 6 REJECTED_SC.
+-- The port, the file descriptor and the process are bits 0 to 27 of the code
 unfoldable pub guard_flavor : Lists → ℕ → ℕ → ℕ → List ℕ
 guard_flavor names kind code subcode =
     if kind == 1 then guard names code subcode family.MacGuardMachPort (concat (

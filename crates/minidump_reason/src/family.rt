@@ -11,25 +11,25 @@ pub enum CodeFamily {
     MacBadAccessKern,
     /// The flags of a bad access on ARM64.
     MacBadAccessArm,
-    /// The flags of a bad access on PowerPC.
+    /// The flags of a bad access on 32-bit PowerPC.
     MacBadAccessPpc,
     /// The flags of a bad access on x86 and x86-64.
     MacBadAccessX86,
     /// The flags of a bad instruction on ARM64.
     MacBadInstructionArm,
-    /// The flags of a bad instruction on PowerPC.
+    /// The flags of a bad instruction on 32-bit PowerPC.
     MacBadInstructionPpc,
     /// The flags of a bad instruction on x86 and x86-64.
     MacBadInstructionX86,
     /// The flags of an arithmetic exception on ARM64.
     MacArithmeticArm,
-    /// The flags of an arithmetic exception on PowerPC.
+    /// The flags of an arithmetic exception on 32-bit PowerPC.
     MacArithmeticPpc,
     /// The flags of an arithmetic exception on x86 and x86-64.
     MacArithmeticX86,
     /// The flags of a breakpoint on ARM64.
     MacBreakpointArm,
-    /// The flags of a breakpoint on PowerPC.
+    /// The flags of a breakpoint on 32-bit PowerPC.
     MacBreakpointPpc,
     /// The flags of a breakpoint on x86 and x86-64.
     MacBreakpointX86,

@@ -27,7 +27,7 @@
 //! - Reasons, errors and families are equal where they are the same, and copies are the same:
 //!   `laws::reasons_compare_and_copy_exactly`, `errors_compare_and_copy_exactly`.
 //!
-//! What isn't: that a code is found by binary search, since any search meets the contract; and
+//! It is not proved that a code is found by binary search, since any search meets the contract, nor
 //! where memory may run out within a text.
 #![tactic(auto)]
 

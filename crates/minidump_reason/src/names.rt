@@ -16,7 +16,7 @@ pub enum CodeNamesError {
     Repeated(CodeFamily),
 }
 
-/// The names of codes, in one borrowed list for each family.
+/// The names of codes, in at most one borrowed list for each family.
 #[derive(Drop)]
 pub struct CodeNames<'n> {
     lists: &'n [(CodeFamily, &'n [(u32, &'n str)])],

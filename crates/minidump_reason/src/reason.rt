@@ -15,19 +15,19 @@ pub enum CrashReason {
     MacBadAccessKern(u32),
     /// A bad access on ARM64, by its flags.
     MacBadAccessArm(u32),
-    /// A bad access on PowerPC, by its flags.
+    /// A bad access on 32-bit PowerPC, by its flags.
     MacBadAccessPpc(u32),
     /// A bad access on x86 or x86-64, by its flags.
     MacBadAccessX86(u32),
     /// A bad instruction on ARM64, by its flags.
     MacBadInstructionArm(u32),
-    /// A bad instruction on PowerPC, by its flags.
+    /// A bad instruction on 32-bit PowerPC, by its flags.
     MacBadInstructionPpc(u32),
     /// A bad instruction on x86 or x86-64, by its flags.
     MacBadInstructionX86(u32),
     /// An arithmetic exception on ARM64, by its flags.
     MacArithmeticArm(u32),
-    /// An arithmetic exception on PowerPC, by its flags.
+    /// An arithmetic exception on 32-bit PowerPC, by its flags.
     MacArithmeticPpc(u32),
     /// An arithmetic exception on x86 or x86-64, by its flags.
     MacArithmeticX86(u32),
@@ -35,7 +35,7 @@ pub enum CrashReason {
     MacSoftware(u32),
     /// A breakpoint on ARM64, by its flags.
     MacBreakpointArm(u32),
-    /// A breakpoint on PowerPC, by its flags.
+    /// A breakpoint on 32-bit PowerPC, by its flags.
     MacBreakpointPpc(u32),
     /// A breakpoint on x86 or x86-64, by its flags.
     MacBreakpointX86(u32),

@@ -71,6 +71,6 @@ mac_bootargs_stream = record {
       (λ raw. TakesMemory16 order raw.bootargs file);
 }
 
--- the arguments as text, and an empty line: nothing where there are none
+-- the arguments after their label, or nothing where there are none; then an empty line
 abbrev pub mac_bootargs_text : BootArgs → List ℕ
 mac_bootargs_text b = codes "mac_boot_args = " ++ (text_or_nothing b.text ++ codes "\n\n")

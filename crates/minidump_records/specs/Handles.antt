@@ -127,7 +127,7 @@ shared_fields (HandleDescriptor2 raw) = record {
   pointer_count = raw.pointer_count;
 }
 
--- the descriptor: of either layout it is headed MINIDUMP_HANDLE_DESCRIPTOR
+-- the lines of the descriptor, headed MINIDUMP_HANDLE_DESCRIPTOR in either layout
 unfoldable pub fields_text : MINIDUMP_HANDLE_DESCRIPTOR → Option ℕ → List ℕ
 fields_text raw info_rva = concat (
     codes "MINIDUMP_HANDLE_DESCRIPTOR\n"
@@ -152,7 +152,7 @@ names_text type_name object_name = concat (
 abbrev pub or_null : Option (List ℕ) → List ℕ
 or_null name = unwrap_or name (codes "(null)")
 
--- the information on its object
+-- the label of a line of information on the object
 unfoldable pub info_label : List ℕ
 info_label = codes "  (object_info)     = "
 

@@ -27,7 +27,7 @@ linux_text_of t = t.data.now
 abbrev pub linux_text_in : List ℕ → Result (List ℕ) Error
 linux_text_in bytes = Ok bytes
 
--- the table of a text: nothing of it is read, and it takes no memory
+-- the table of a text: reading it takes no step and no memory
 abbrev pub linux_text_stream : {F : Type 0} → MINIDUMP_STREAM_TYPE
     → StreamSpec (LinuxText F) (List ℕ)
 linux_text_stream stream_type = record {

@@ -19,9 +19,9 @@ pub struct MinidumpAssertion {
     pub raw: MINIDUMP_ASSERTION_INFO,
 }
 
-/// The texts. Each ends at its first NUL, and is `Ok(None)` if a surrogate before that NUL lacks
-/// its partner. The only error is [`Error::OutOfMemory`], and only if a code unit stands before
-/// that NUL.
+/// The texts. Each ends before its first NUL, or after its 128 code units if there is none, and is
+/// `Ok(None)` if a surrogate in it lacks its partner. The only error is [`Error::OutOfMemory`], and
+/// only if the text is not empty.
 impl MinidumpAssertion {
     /// Returns the expression that was false.
     pub fn expression(&self, alloc: Global) -> Result<Option<String>, Error>

@@ -15,7 +15,7 @@ const DUMP_THREAD_ID: u32 = 0x1;
 
 const REQUESTING_THREAD_ID: u32 = 0x2;
 
-/// The threads that wrote and requested a dump, which Breakpad writes.
+/// The ids of the threads that wrote and requested the dump, as Breakpad writes them.
 #[derive(Clone, Copy)]
 pub struct MinidumpBreakpadInfo {
     /// The record of the stream.

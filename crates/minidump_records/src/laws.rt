@@ -121,8 +121,8 @@ pub fn values_are_bounded_by_the_file()
     ensures crashpad { IsBoundedByTheFile ⟦<MinidumpCrashpadInfo as MinidumpStream<'static>>⟧.spec.meaning CrashpadIsWithin }
 {}
 
-/// Clones of a raw descriptor of a handle, and of a piece of information on its object, are equal
-/// values.
+/// A clone of a raw descriptor of a handle, or of a piece of information on its object, is the same
+/// value.
 pub fn handle_clones_are_the_same()
     ensures raw { (x y : RawHandleDescriptor) → ⟦<RawHandleDescriptor as Clone>⟧.is_clone x y → y
         ≡ x }

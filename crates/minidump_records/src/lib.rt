@@ -20,10 +20,12 @@
 //!
 //! # Errors
 //!
-//! `StreamReadFailure` or `StreamSizeMismatch` if the stream is malformed, and `OutOfMemory` if an
-//! allocation fails. A name that is no text is skipped. `VersionMismatch` for Crashpad's
-//! information of version 0 and for a record of macOS that has another version than the one before
-//! it, `DataError` for soft errors that are not UTF-8. Linux texts have no error.
+//! Reading returns `StreamReadFailure` or `StreamSizeMismatch` if the stream is malformed,
+//! `VersionMismatch` for Crashpad's information of version 0 and for a record of macOS that has
+//! another version than the one before it, `DataError` for soft errors that are not UTF-8, and
+//! `OutOfMemory` if an allocation fails. A name of a thread that is no text is skipped, one of a
+//! handle is `None`. Reading a Linux text has no error. Printing returns `IoError` if the writer
+//! has failed by then, and otherwise `OutOfMemory` if an allocation fails.
 //!
 //! # What is proved
 //!
@@ -50,11 +52,12 @@
 //!   whose flags are set, the texts up to a NUL, and the text at the RVA: `breakpad_info_in`,
 //!   `assertion_in`, `mac_bootargs_in`; `MinidumpAssertion::expression`, `function`, `file`. Soft
 //!   errors are the stream as UTF-8: `soft_errors_in`.
-//! - The records of macOS are those at the first 20 locations, without those of version 0. Each is
-//!   read by its version, and its texts lie within its bytes: `MinidumpMacCrashInfo::read`, by
-//!   `mac_crash_info_in`. A read takes at least one step for the stream, for the bytes and the head
-//!   of each record, and for the fixed part and each text from version 4 on. Numbers that are 0 and
-//!   empty texts are absent: the accessors of `RawMacCrashInfo`.
+//! - The records of macOS are those at the locations that the stream counts, 20 at most, without
+//!   those of version 0. Each is read by its version, and its texts lie within its bytes:
+//!   `MinidumpMacCrashInfo::read`, by `mac_crash_info_in`. A read takes at least one step for the
+//!   stream, for the bytes and the head of each record, and for the fixed part and each text from
+//!   version 4 on. Numbers that are 0 and empty texts are absent: the accessors of
+//!   `RawMacCrashInfo`.
 //! - A Linux text is its stream. Its iterator yields exactly the pairs of its lines, or the lines,
 //!   and ends: `iter` of each, by `pairs_of`; `LinuxPairs::next`.
 //! - Streams whose value depends on their bytes and the byte order alone:
@@ -63,8 +66,9 @@
 //! - The length of the file bounds how many handles there are, how many pieces of information on an
 //!   object, how many links to modules, and how many texts in the list of a module:
 //!   `laws::values_are_bounded_by_the_file`.
-//! - Each read takes at most n + 7 steps, of handles and of Crashpad's information (n + 8)² - 1:
-//!   `most` of each table. Of the latter, the information that a link names takes at most 2n + 16:
+//! - Each read takes at most n + 7 steps, where n is the length of the stream or of the file,
+//!   whichever is longer; of handles and of Crashpad's information at most (n + 8)² - 1: `most` of
+//!   each table. Of the latter, the information that a link names takes at most 2n + 16:
 //!   `most_of_link`.
 //! - Handles, thread information, thread names, assertions and Breakpad's information print the
 //!   text of their value, thread names ascending by the ids of the threads: `print` of each, by

@@ -41,7 +41,7 @@ impl Pushed for MinidumpThreadInfo {
 /// The state of each thread, in the order of the file.
 #[derive(Drop)]
 pub struct MinidumpThreadInfoList {
-    /// What the stream has of each thread.
+    /// The entries, in the order of the stream.
     pub thread_infos: Vec<MinidumpThreadInfo>,
 }
 
@@ -84,7 +84,7 @@ impl MinidumpThreadInfoList {
         self.thread_infos.is_empty()
     }
 
-    /// Returns the last entry that has the id of a thread, or `None` if no entry has it.
+    /// Returns the last entry whose thread id is `id`, or `None` if there is none.
     pub fn get_thread_info(&self, id: u32) -> Option<&MinidumpThreadInfo>
         ensures { option_copied result ≡ last_info self.now.thread_infos.items id }
     {

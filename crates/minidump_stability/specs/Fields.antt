@@ -19,7 +19,8 @@ abbrev pub first : {A B : Type 0} → (A → Option B) → List A → Option B
 first value [] = None
 first value (x ∷ xs) = option_or (value x) (first value xs)
 
--- ---- the fields as a function: by the law `fields_are_what_bytes_spell`, bytes spell exactly these
+-- ---- the fields as a function: by the law `fields_are_what_bytes_spell`, bytes spell exactly
+-- these
 
 -- the cuts of a byte and what follows it, by a cut of what follows: the byte is a piece of its own,
 -- or begins the first piece

@@ -16,7 +16,7 @@ use Rattle.minidump_stability.specs.StabilityReport.{Report, file_system_state_o
 use Rattle.minidump_stability.specs.StabilityReport.{report_of, system_windows_memory_of, windows_memory_of}
 use Rattle.minidump_stability.specs.Rows.{one_nested, one_repeated, only, row, scalar_row, through}
 
--- ProcessState.MemoryState.WindowsMemory
+-- ProcessState.MemoryState.WindowsMemory without fields
 abbrev pub no_windows_memory : WindowsMemory
 no_windows_memory = record {
   process_private_usage = None;
@@ -39,7 +39,7 @@ put_windows_memory =
     (row 1 (scalar_row uint32_in)
     (row 2 (scalar_row uint32_in) (row 3 (scalar_row uint32_in) (only 4 (scalar_row uint32_in)))))
 
--- ProcessState.MemoryState
+-- ProcessState.MemoryState without fields
 abbrev pub no_memory_state : MemoryState
 no_memory_state = record { windows_memory = None }
 
@@ -49,7 +49,7 @@ put_memory_state =
     through (λ m. m.windows_memory) (λ v. record { windows_memory = v })
     (only 1 (one_nested put_windows_memory no_windows_memory))
 
--- ProcessState.FileSystemState.PosixFileSystemState
+-- ProcessState.FileSystemState.PosixFileSystemState without fields
 abbrev pub no_posix_file_system_state : PosixFileSystemState
 no_posix_file_system_state = record { open_file_descriptors = None }
 
@@ -60,7 +60,7 @@ put_posix_file_system_state =
     through (λ m. m.open_file_descriptors) (λ v. record { open_file_descriptors = v })
     (only 1 (scalar_row uint32_in))
 
--- ProcessState.FileSystemState.WindowsFileSystemState
+-- ProcessState.FileSystemState.WindowsFileSystemState without fields
 abbrev pub no_windows_file_system_state : WindowsFileSystemState
 no_windows_file_system_state = record { process_handle_count = None }
 
@@ -71,7 +71,7 @@ put_windows_file_system_state =
     through (λ m. m.process_handle_count) (λ v. record { process_handle_count = v })
     (only 1 (scalar_row uint32_in))
 
--- ProcessState.FileSystemState
+-- ProcessState.FileSystemState without fields
 abbrev pub no_file_system_state : FileSystemState
 no_file_system_state = record { posix_file_system_state = None; windows_file_system_state = None }
 
@@ -82,7 +82,7 @@ put_file_system_state =
     (row 1 (one_nested put_posix_file_system_state no_posix_file_system_state)
     (only 2 (one_nested put_windows_file_system_state no_windows_file_system_state)))
 
--- ProcessState
+-- ProcessState without fields
 abbrev pub no_process_state : ProcessState
 no_process_state = record { process_id = None; memory_state = None; file_system_state = None }
 
@@ -94,7 +94,7 @@ put_process_state =
     (row 4 (one_nested put_memory_state no_memory_state)
     (only 7 (one_nested put_file_system_state no_file_system_state))))
 
--- SystemMemoryState.WindowsMemory
+-- SystemMemoryState.WindowsMemory without fields
 abbrev pub no_system_windows_memory : system.WindowsMemory
 no_system_windows_memory =
     record { system_commit_limit = None; system_commit_remaining = None; system_handle_count = None }
@@ -107,7 +107,7 @@ put_system_windows_memory =
     system_windows_memory_of
     (row 1 (scalar_row uint32_in) (row 2 (scalar_row uint32_in) (only 3 (scalar_row uint32_in))))
 
--- SystemMemoryState
+-- SystemMemoryState without fields
 abbrev pub no_system_memory_state : SystemMemoryState
 no_system_memory_state = record { windows_memory = None }
 

@@ -37,17 +37,17 @@ windows_memory fs =
     (both (scalar uint32_in 1 fs)
     (both (scalar uint32_in 2 fs) (both (scalar uint32_in 3 fs) (scalar uint32_in 4 fs))))
 
--- ProcessState.MemoryState
+-- ProcessState.MemoryState by its fields
 abbrev pub memory_state : List Field → Option MemoryState
 memory_state fs =
     option_map (λ memory. record { windows_memory = memory }) (nested windows_memory 1 fs)
 
--- ProcessState.FileSystemState.PosixFileSystemState
+-- ProcessState.FileSystemState.PosixFileSystemState by its fields
 abbrev pub posix_file_system_state : List Field → Option PosixFileSystemState
 posix_file_system_state fs =
     option_map (λ files. record { open_file_descriptors = files }) (scalar uint32_in 1 fs)
 
--- ProcessState.FileSystemState.WindowsFileSystemState
+-- ProcessState.FileSystemState.WindowsFileSystemState by its fields
 abbrev pub windows_file_system_state : List Field → Option WindowsFileSystemState
 windows_file_system_state fs =
     option_map (λ handles. record { process_handle_count = handles }) (scalar uint32_in 1 fs)
@@ -89,7 +89,7 @@ system_windows_memory fs =
     option_map system_windows_memory_of
     (both (scalar uint32_in 1 fs) (both (scalar uint32_in 2 fs) (scalar uint32_in 3 fs)))
 
--- SystemMemoryState
+-- SystemMemoryState by its fields
 abbrev pub system_memory_state : List Field → Option SystemMemoryState
 system_memory_state fs =
     option_map (λ memory. record { windows_memory = memory }) (nested system_windows_memory 1 fs)

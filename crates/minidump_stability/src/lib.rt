@@ -7,8 +7,10 @@
 //!
 //! # Errors
 //!
-//! `DataError` where the bytes of the stream, or of a message in it, aren't fields one after
-//! another, or where a known field has another wire type; `OutOfMemory` where an allocation fails.
+//! A read returns `DataError` where the bytes of the stream, or of a message in it, aren't fields
+//! one after another, or where a known field has another wire type, and `OutOfMemory` where an
+//! allocation fails. A print returns `IoError` where its writer has failed by then, else
+//! `OutOfMemory` where an allocation fails.
 //!
 //! # What is proved
 //!
@@ -17,8 +19,9 @@
 //!   other fields are skipped: `StabilityReport::read`, by `stability_report_in`;
 //!   `laws::fields_are_what_bytes_spell`, `report_is_what_its_fields_mean`.
 //! - It depends on its stream alone: `laws::report_depends_on_its_stream_alone`.
-//! - A read takes at most n + 7 reads and, where it succeeds, at least one for each field, nested
-//!   ones included: `most` and `fewest` of `stability_report_stream`.
+//! - A read takes at most n + 7 steps, where n is the length of the stream or of the file,
+//!   whichever is longer, and, where it succeeds, at least one for each field, nested ones
+//!   included: `most` and `fewest` of `stability_report_stream`.
 //! - A line is printed for each number that the report has: `StabilityReport::print`, by
 //!   `stability_report_text`.
 //! - A copy is the same report, and reports are equal where they hold the same:

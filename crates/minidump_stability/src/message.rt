@@ -121,7 +121,8 @@ pub fn nested<M: Plain + Drop>(
     Ok(Some(merge_plain(alloc, old, bytes, steps)?))
 }
 
-/// Returns the low 32 bits of a varint. Returns `DataError` if the value is no varint.
+/// Returns the low 32 bits of a varint, always in `Some`. Returns `DataError` if the value is no
+/// varint.
 pub fn uint32(value: WireValue<'_>) -> Result<Option<u32>, Error>
     ensures { result ≡ ok_or (one_scalar uint32_in (payload_of value.entry)) DataError }
 {
@@ -131,8 +132,8 @@ pub fn uint32(value: WireValue<'_>) -> Result<Option<u32>, Error>
     }
 }
 
-/// Returns a varint as a 64-bit number in two's complement, always in `Some`. Returns `DataError` if
-/// the value is no varint.
+/// Returns a varint as a 64-bit number in two's complement, always in `Some`. Returns `DataError`
+/// if the value is no varint.
 pub fn int64(value: WireValue<'_>) -> Result<Option<i64>, Error>
     ensures { result ≡ ok_or (one_scalar int64_in (payload_of value.entry)) DataError }
 {

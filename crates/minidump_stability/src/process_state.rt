@@ -14,7 +14,7 @@ use std::alloc::Global;
 /// The memory of a process.
 #[derive(Clone, Copy, PartialEq, Eq)]
 pub struct MemoryState {
-    /// On Windows.
+    /// The counters of Windows.
     pub windows_memory: Option<WindowsMemory>,
 }
 
@@ -66,9 +66,9 @@ impl Exact for MemoryState {
 /// The files of a process.
 #[derive(Clone, Copy, PartialEq, Eq)]
 pub struct FileSystemState {
-    /// On a POSIX system.
+    /// The counters of a POSIX system.
     pub posix_file_system_state: Option<PosixFileSystemState>,
-    /// On Windows.
+    /// The counters of Windows.
     pub windows_file_system_state: Option<WindowsFileSystemState>,
 }
 

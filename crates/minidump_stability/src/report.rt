@@ -66,7 +66,7 @@ impl Plain for ProcessState {
 /// The memory of a system.
 #[derive(Clone, Copy, PartialEq, Eq)]
 pub struct SystemMemoryState {
-    /// On Windows.
+    /// The counters of Windows.
     pub windows_memory: Option<system_memory_state::WindowsMemory>,
 }
 

@@ -6,14 +6,14 @@ use minidump_bytes::{Exact, Steps, WireField};
 use minidump_format::Error;
 use std::alloc::Global;
 
-/// The memory of a system of Windows.
+/// The memory of a Windows system.
 #[derive(Clone, Copy, PartialEq, Eq)]
 pub struct WindowsMemory {
-    /// The most memory that can be committed.
+    /// The most memory that can be committed, in pages.
     pub system_commit_limit: Option<u32>,
-    /// How much of that is left.
+    /// How much of that is left, in pages.
     pub system_commit_remaining: Option<u32>,
-    /// The number of open handles.
+    /// The number of open handles in the system.
     pub system_handle_count: Option<u32>,
 }
 

@@ -41,7 +41,8 @@ impl<R: Read> Read for OneByte<R> {
     }
 }
 
-/// A reader or writer whose calls fail from call number `at` on, counted from 0.
+/// A reader or writer whose reads or writes fail from call number `at` on, counted from 0. Flushing
+/// doesn't count.
 #[derive(Drop)]
 pub struct FailsAt<D> {
     /// The reader or writer that it calls.

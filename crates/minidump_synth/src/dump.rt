@@ -64,8 +64,8 @@ impl SynthMinidump {
     }
 
     /// Makes a minidump with no streams that has room for `entries` entries of the directory after
-    /// the header, and then for streams of so many bytes in all, so that prefixes of the file are
-    /// dumps too. There may not be more entries.
+    /// the header, and then for `streams_room` bytes of streams, so that prefixes of the file are
+    /// dumps too. With more than `entries` entries the RVAs are wrong.
     pub fn with_streams_first(
         alloc: Global,
         endian: Endian,

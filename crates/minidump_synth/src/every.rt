@@ -33,7 +33,7 @@ pub fn every_stream(alloc: Global, endian: Endian) -> Result<Vec<u8>, AllocError
     dump.finish()
 }
 
-// Adds so many pieces of information on an object, each with the RVA of the next one, and the last
+// Adds `pieces` pieces of information on an object, each with the RVA of the next one, and the last
 // with that of the first, which is returned.
 fn add_circle(dump: &mut SynthMinidump, pieces: u32) -> RVA {
     let first = dump.rva();

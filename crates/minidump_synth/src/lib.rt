@@ -20,7 +20,8 @@
 //!
 //! # Errors
 //!
-//! `finish` returns `AllocError` where an allocation failed, and is the only call that does.
+//! `finish` and [`every_stream`] return `AllocError` where an allocation failed. No other call
+//! reports that.
 //!
 //! # What is proved
 //!

@@ -5,7 +5,7 @@ use minidump_format::format::{
 };
 
 /// Five regions of memory: the second has the addresses of the first, the third and the fourth
-/// share some with it, and the last begins where the first ends.
+/// share some with it, and the last begins right after it.
 pub const OVERLAPPING: &[(u64, &[u8])] = &[
     (0x1000, &[0; 0x1000]),
     (0x1000, &[1; 0x1000]),

@@ -13,8 +13,8 @@ use minidump_bytes::{Endian, Entries, Record, Source, Steps};
 use minidump_format::Error;
 use std::alloc::Global;
 
-/// Reads an entry of a list. The entry becomes an item, is skipped, or makes the whole list an error. `self` is what the
-/// entries have in common.
+/// Reads an entry of a list. The entry becomes an item, is skipped, or makes the whole list an
+/// error. `self` is what the entries have in common.
 pub trait ReadEntry<'a, E> {
     /// The item of an entry.
     type Item;
@@ -24,7 +24,8 @@ pub trait ReadEntry<'a, E> {
 
     ghost value: { Self.Item → Value };
 
-    // the value of an entry's item, none where the entry is skipped, or its error, by the byte order and the file
+    // the value of an entry's item, none where the entry is skipped, or its error, by the byte
+    // order and the file
     ghost entry_value: { Self → Endian → List ℕ → E → Result (Option Value) Error };
 
     // the most reads of an entry, by the file's length
@@ -36,7 +37,8 @@ pub trait ReadEntry<'a, E> {
     // the fewest reads that an item adds to those
     ghost fewest_of: { Value → ℕ };
 
-    /// Reads the item of an entry from the bytes of the file, `all`. Returns `Ok(None)` if the entry is skipped.
+    /// Reads the item of an entry from the bytes of the file, `all`. Returns `Ok(None)` if the
+    /// entry is skipped.
     fn read_entry(
         &self,
         alloc: Global,
@@ -53,8 +55,9 @@ pub trait ReadEntry<'a, E> {
             (fewest entry + of_kept fewest_of (option_map value item)) ≤ steps.new) };
 }
 
-/// Reads the items of entries, in order, but for those that are skipped. Returns the error of the first entry that has
-/// one. Counts one step for each entry that it reads, and the steps of its item.
+/// Reads the items of entries, in order, but for those that are skipped. Returns the error of the
+/// first entry that has one. Counts one step for each entry that it reads, and the steps of its
+/// item.
 pub fn read_items<'a, E: Record + Drop, L: ReadEntry<'a, E>>(
     reader: &L,
     alloc: Global,

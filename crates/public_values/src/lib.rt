@@ -82,7 +82,8 @@ pub fn memory_info_list<'l, 'a>(
     list.iter()
 }
 
-/// Returns the sets of bits of a region of the memory information.
+/// Returns the bits of a region of the memory information: of its protection when it was allocated,
+/// its state, its protection and its type.
 pub fn memory_info(info: &MinidumpMemoryInfo<'_>) -> (u32, u32, u32, u32)
     ensures { info_of info.now ≡ record {
       raw = info.now.raw;
@@ -109,7 +110,7 @@ pub fn linux_maps<'l, 'a>(
     list.iter()
 }
 
-/// Returns the permissions of a region of the maps.
+/// Returns the bits of the permissions of a region of the maps.
 pub fn linux_map(region: &MinidumpLinuxMapInfo<'_>) -> u8
     ensures { map_info_of region.now ≡ record {
       address = region.now.map.address;

@@ -1,5 +1,5 @@
--- The evidence of a frame that isn't the context's: its return address stands in the stack, right
--- below its stack pointer.
+-- The evidence of a caller by a frame pointer and of a candidate: its return address stands in the
+-- stack, right below its stack pointer.
 use Rattle.std.specs.Prelude.{◌≡◌, ℕ, ◌-◌, nat_le, Option, Some, None, if◌then◌else◌}
 use Rattle.std.specs.Option.{option_and_then}
 use Rattle.minidump.specs.declared.system_info.PointerWidth.{PointerWidth}
@@ -19,7 +19,8 @@ word_below FramePointer stack_pointer size = if nat_le size stack_pointer
 word_below Scan stack_pointer size = if nat_le size stack_pointer then Some (stack_pointer - size)
     else None
 
--- where the return address of a frame stands: none of a context
+-- the address at which the return address of a frame stands: none of a context, nor of a frame by
+-- rules
 abbrev pub evidence_address : PointerWidth → StackFrame → Option ℕ
 evidence_address width f = option_and_then (word_below f.trust f.stack_pointer)
     (pointer_bytes width)

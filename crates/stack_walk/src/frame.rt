@@ -14,7 +14,8 @@ use minidump::{MinidumpModule, MinidumpModuleList};
 pub enum FrameTrust {
     /// The registers of the thread's context.
     Context,
-    /// The rules of the module's symbol file, for call frame information.
+    /// The STACK CFI rules that the symbol file of a module has for the frame before. No walk of
+    /// this crate finds such a frame.
     Cfi,
     /// The frame pointer of the frame before.
     FramePointer,
@@ -25,12 +26,14 @@ pub enum FrameTrust {
 /// A frame of a stack.
 #[derive(Clone, Copy, Debug, PartialEq, Eq)]
 pub struct StackFrame {
-    /// The instruction pointer of the context, or else the return address of the frame before.
+    /// The instruction pointer of the context, or else the return address by which the frame was
+    /// found.
     pub instruction: u64,
-    /// The stack pointer: of a caller or a candidate, the address after its return address, which is
-    /// the lowest that its stack pointer can be.
+    /// The stack pointer, as the context or the rules give it. A frame by a frame pointer or by a
+    /// scan has the address after its return address, the lowest that its stack pointer can be.
     pub stack_pointer: u64,
-    /// The frame pointer, as the context or the frame record has it, or `None` if it isn't known.
+    /// The frame pointer, as the context, the rules or the frame record give it, or `None` if it
+    /// isn't known.
     pub frame_pointer: Option<u64>,
     /// How the frame was found.
     pub trust: FrameTrust,
@@ -75,9 +78,10 @@ impl StackFrame {
         offset_at(modules, address)
     }
 
-    /// Returns the address in the stack at which the frame's return address stands, the word below
-    /// its stack pointer. Returns `None` for the frame of a context and for one by rules, where the
-    /// width of an address is unknown, and if the stack pointer is less than that width.
+    /// Returns the address in the stack at which the frame's return address stands, that of the
+    /// word below its stack pointer. Returns `None` for [`FrameTrust::Context`] and
+    /// [`FrameTrust::Cfi`], if the width of an address is unknown, or if the stack pointer is less
+    /// than that width.
     pub fn evidence(&self, width: PointerWidth) -> Option<u64>
         ensures { result ≡ evidence_address width self.now }
     {

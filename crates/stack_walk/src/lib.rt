@@ -73,10 +73,9 @@ pub use walk::{Walk, walk_stack};
 ///   first frame below its record, if it has a caller: the frame pointer of a function without a
 ///   record of its own is that of a caller further out, and the return addresses of the callers
 ///   between them stand there.
-/// - Of words that hold one return address the lowest alone is a candidate, and `limit` counts no
-///   other.
-///   [`Stack::candidates`] finds them in one pass over these words, with a look-up in the return
-///   addresses that it has for each candidate.
+/// - Of words that hold the same return address only the lowest is a candidate, and `limit` counts
+///   no other. [`Stack::candidates`] finds the candidates in one pass over these words, and looks
+///   each up among the return addresses that it has.
 ///
 /// A module contains a return address if it contains the address below it, which lies in the call.
 /// On ARM of 32 bits bit 0 of the return address is cleared first. The only error is `OutOfMemory`.

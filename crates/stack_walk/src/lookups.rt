@@ -33,8 +33,8 @@ pub(crate) fn offset_at(modules: &MinidumpModuleList, address: u64) -> Option<u6
     Some(address - module.raw.base_of_image)
 }
 
-/// Returns the index of the kept module that contains an address in the list of modules, and the
-/// offset in that, or `None` if no kept module does.
+/// Returns the index in the list of modules of the kept one that contains an address, and the
+/// offset of the address from its base. Returns `None` if no kept module contains the address.
 pub fn module_place(modules: &MinidumpModuleList, address: u64) -> Option<(usize, u64)>
     ensures { result ≡ module_place (module_list_stream.value modules.now) address }
 {

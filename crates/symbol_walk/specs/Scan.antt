@@ -25,16 +25,17 @@ unfoldable pub in_function : UnwinderValue → ℕ → Bool
 in_function u address = option_map_or (λ p. has_function p.0 p.1)
     (symbols_at u.stack.modules u.symbols address) false
 
--- whether the call of a candidate lies in one
+-- whether the call of a candidate lies in a function of the symbols
 abbrev pub is_called : UnwinderValue → StackFrame → Bool
 is_called u candidate =
     option_map_or (in_function u) (lookup_address u.stack.cpu candidate) false
 
--- whether the walk goes on from a candidate after a frame: its call lies in a function
+-- whether the walk goes on from a candidate after a frame: the stack goes on at the candidate's
+-- stack pointer, and its call lies in a function
 unfoldable pub restarts : UnwinderValue → StackFrame → StackFrame → Bool
 restarts u f candidate = goes_on u.stack f candidate.stack_pointer && is_called u candidate
 
--- the candidate of an aligned word, by its number, if it does
+-- the candidate of an aligned word, by its number, if the walk goes on from it
 abbrev pub restart_at : UnwinderValue → StackFrame → ℕ → Option StackFrame
 restart_at u f number = option_and_then
     (λ candidate. if restarts u f candidate then Some candidate else None)
@@ -45,7 +46,7 @@ restart_at u f number = option_and_then
 abbrev pub next_words : StackFrame → ℕ → ℕ × ℕ
 next_words f size = (div_ceil f.stack_pointer size, scanned_words f.trust)
 
--- the first candidate among these from which it does
+-- the first candidate among the next words of a frame from which the walk goes on
 unfoldable pub restart_of : UnwinderValue → StackFrame → Option StackFrame
 restart_of u f = option_and_then (λ size. find (restarts u f)
     (word_candidates u.stack (next_words f size))) (pointer_bytes u.stack.width)

@@ -6,7 +6,8 @@
 //!   has no symbols, or its rules give no caller, the caller is that by the frame pointer, as in
 //!   [`stack_walk`]; or else the walk starts again at the first of the next words of the stack that may
 //!   be a return address into a function of the symbols: [`FrameTrust::Scan`].
-//! - It ends where rules say that a frame has no caller, and where none of these gives one.
+//! - The walk ends where the rules say that a frame has no caller, or where neither its rules nor
+//!   its frame pointer nor the next words give one.
 //!
 //! [`walk_by_symbols`] finds the frames by a context and a [`Stack`].
 //!
@@ -16,16 +17,17 @@
 //!
 //! # The caller by rules
 //!
-//! The rules of a frame are those that its module's symbols have for the address by which it is looked
-//! up ([`StackFrame::lookup_address`]). They refer to the known registers, and to the words of the
-//! stack. `.ra` is the caller's instruction, and `.cfa` its stack pointer, unless that has a rule of its
-//! own. Each other register has the value of its rule; without a rule one that a function keeps for its
-//! caller has its value in the callee, and any other isn't known.
+//! The rules of a frame are those that its module's symbols have for the address by which it is
+//! looked up ([`StackFrame::lookup_address`]). They refer to the known registers, and to the words
+//! of the stack. `.ra` gives the instruction pointer of the caller, and `.cfa` its stack pointer,
+//! unless the stack pointer has a rule of its own. Each other register has the value of its rule.
+//! Without a rule, a register that functions keep for their callers has its value in the callee,
+//! and any other isn't known.
 //!
-//! The stack pointer of a caller lies on the stack or right after it, above that of its callee, or for a
-//! context's frame not below it: there a return address may be in a register. The walk starts again at
-//! one of the 40 aligned words from the stack pointer of a context's frame on, or of the 30 from that of
-//! another; no other word is looked at for this.
+//! The stack pointer of a caller lies on the stack or right after it, and above that of its callee.
+//! It may equal that of a context's frame, whose return address may be in a register. The walk
+//! starts again at one of the 40 aligned words from the stack pointer of a context's frame on, or
+//! of the 30 from that of another frame. No other word is looked at for this.
 //!
 //! # The candidates
 //!

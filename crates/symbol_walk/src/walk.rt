@@ -19,8 +19,8 @@ use std::alloc::{AllocError, Global};
 /// Why the last frame of a walk by symbols has no caller.
 #[derive(Clone, Copy, Debug, PartialEq, Eq)]
 pub enum SymbolWalkEnd {
-    /// It has none by its rules, nor by its frame pointer, nor among the next words of the stack: why
-    /// it has none by its frame pointer.
+    /// Neither its rules nor its frame pointer nor the next words of the stack give one. The value
+    /// says why its frame pointer gives none.
     Walk(WalkEnd),
     /// The symbols have rules for its address, but none for the return address, as a thread's first
     /// function has none.
@@ -40,9 +40,11 @@ pub struct SymbolWalk {
     pub end: SymbolWalkEnd,
 }
 
-/// Returns the frames of the thread that has this context and this stack by the symbols of its modules:
-/// that of the context, and its callers; and at most `limit` candidates of these. `symbols` has those of
-/// each module by its index in the list of modules; a shorter one has none for the rest. The only error
+/// Walks a stack from a context by the symbols of the modules. Returns the frame of the context,
+/// its callers, and at most `limit` candidates of these.
+///
+/// `symbols` has the symbols of each module at the index that the module has in the list of
+/// modules, or `None` if they aren't known. A shorter slice has none for the rest. The only error
 /// is `OutOfMemory`.
 pub fn walk_by_symbols(
     alloc: Global,

@@ -92,9 +92,9 @@ const UP: &[(u64, u64)] = &[(0, 4), (10, 4), (20, 4), (30, 4), (40, 4), (50, 4),
 #[rattlefmt::skip]
 const DOWN: &[(u64, u64)] = &[(70, 4), (60, 4), (50, 4), (40, 4), (30, 4), (20, 4), (10, 4), (0, 4)];
 
-// With how many regions a lookup, of the base of each of the first regions of `UP`, compares: one a
-// level of the complete tree whose last level is filled from the left, and none of that level where
-// it has no region below the others.
+// How many regions a lookup compares an address with, for the base of each of the first regions of
+// `UP`: one for each level of the complete tree whose last level is filled from the left, but none
+// of that level where it has no region below.
 const DEPTHS: &[&[u128]] = &[
     &[],
     &[1],

@@ -41,7 +41,7 @@ fn does_fill(rt: &HostRuntime, file: &[u8], error: Option<Error>) -> bool {
     matches!(fills(rt, file, error), Ok(true))
 }
 
-// A dump that no one read of a file holds.
+// A dump that is too long for one read of a file.
 fn long(alloc: Global) -> Result<Vec<u8>, AllocError> {
     let mut dump = SynthMinidump::new(alloc, Endian::Little);
     dump.add_stream(0x1122_3344, dump.section().zeros(70_000));

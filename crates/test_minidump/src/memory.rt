@@ -26,7 +26,7 @@ fn answers_the_region_at_an_address(rt: HostRuntime) {
 // four bytes there, where there is one.
 type Numbers = (u64, Option<(u64, Option<u8>, Option<u16>, Option<u32>)>);
 
-// Of the regions that overlap the first one and the last one are kept.
+// Of the regions of `OVERLAPPING` the first and the last are kept.
 const AT_THREE: &[Numbers] = &[
     (0x1a00, Some((0x1000, Some(0), Some(0), Some(0)))),
     (

@@ -22,10 +22,11 @@ use std::alloc::{AllocError, Global};
 use std::io::Write;
 
 impl<'a> MinidumpThread<'a> {
-    /// Prints the entry, the context, if `system` has an architecture by which it can be decoded,
-    /// and unless `brief` is set the whole words of the stack: the thread's own, else that of
-    /// [`stack_memory`](MinidumpThread::stack_memory). A word has the size of a pointer on the
-    /// processor of `system`, and 8 bytes if that is unknown.
+    /// Prints the entry; then the context, if `system` has an architecture by which it can be
+    /// decoded; and then, unless `brief` is set, the whole words of the stack that
+    /// [`stack_memory`](MinidumpThread::stack_memory) finds in `memory`, or without `memory` those
+    /// of the thread's own. A word has the size of a pointer on the processor of `system`, and 8
+    /// bytes if that is unknown. `misc` is not used.
     pub fn print<W: Write>(
         &self,
         alloc: Global,

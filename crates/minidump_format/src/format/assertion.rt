@@ -14,7 +14,8 @@ pub struct MINIDUMP_ASSERTION_INFO {
     pub file: [u16; 128],
     /// The line of the source file.
     pub line: u32,
-    /// The kind of the assertion.
+    /// The kind of the assertion, Breakpad's `MD_ASSERTION_INFO_TYPE_` numbers: 1 an invalid
+    /// parameter, 2 a call of a pure virtual function.
     pub _type: u32,
 }
 

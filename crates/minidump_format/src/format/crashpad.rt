@@ -128,9 +128,9 @@ impl Exact for MINIDUMP_MODULE_CRASHPAD_INFO {
 /// An entry of a dictionary: Crashpad's `MinidumpSimpleStringDictionaryEntry`.
 #[derive(Clone, Copy, Debug, PartialEq, Eq)]
 pub struct MINIDUMP_SIMPLE_STRING_DICTIONARY_ENTRY {
-    /// The RVA of the key, a UTF-8 text.
+    /// The RVA of the key, a `MinidumpUTF8String`.
     pub key: RVA,
-    /// The RVA of the value, a UTF-8 text.
+    /// The RVA of the value, a `MinidumpUTF8String`.
     pub value: RVA,
 }
 
@@ -160,7 +160,7 @@ impl Exact for MINIDUMP_SIMPLE_STRING_DICTIONARY_ENTRY {
 /// A named value: Crashpad's `MinidumpAnnotation`.
 #[derive(Clone, Copy, Debug, PartialEq, Eq)]
 pub struct MINIDUMP_ANNOTATION {
-    /// The RVA of the name, a UTF-8 text.
+    /// The RVA of the name, a `MinidumpUTF8String`.
     pub name: RVA,
     /// The type of the value: one of the `TYPE_` constants, or a user-defined number.
     pub ty: u16,

@@ -60,24 +60,43 @@ pub struct ArmElfHwCaps(u32);
 
 bitflag_items! {
     impl ArmElfHwCaps: u32 {
+        /// The `SWP` instruction.
         const HWCAP_SWP = 0x1;
+        /// Loads and stores of half-words.
         const HWCAP_HALF = 0x2;
+        /// The Thumb instruction set.
         const HWCAP_THUMB = 0x4;
+        /// The 26-bit address model.
         const HWCAP_26BIT = 0x8;
+        /// Multiplication of 32 by 32 bits to 64.
         const HWCAP_FAST_MULT = 0x10;
+        /// The floating-point accelerator, FPA.
         const HWCAP_FPA = 0x20;
+        /// Vector floating point, VFP.
         const HWCAP_VFP = 0x40;
+        /// The DSP extensions.
         const HWCAP_EDSP = 0x80;
+        /// Jazelle, which runs Java bytecode.
         const HWCAP_JAVA = 0x100;
+        /// Intel's Wireless MMX.
         const HWCAP_IWMMXT = 0x200;
+        /// The MaverickCrunch coprocessor.
         const HWCAP_CRUNCH = 0x400;
+        /// The ThumbEE instruction set.
         const HWCAP_THUMBEE = 0x800;
+        /// Advanced SIMD, NEON.
         const HWCAP_NEON = 0x1000;
+        /// VFP version 3.
         const HWCAP_VFPv3 = 0x2000;
+        /// VFP version 3 with 16 double-precision registers.
         const HWCAP_VFPv3D16 = 0x4000;
+        /// The register for thread-local storage.
         const HWCAP_TLS = 0x8000;
+        /// VFP version 4.
         const HWCAP_VFPv4 = 0x1_0000;
+        /// Integer division in ARM state.
         const HWCAP_IDIVA = 0x2_0000;
+        /// Integer division in Thumb state.
         const HWCAP_IDIVT = 0x4_0000;
     }
 }

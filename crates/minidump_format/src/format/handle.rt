@@ -147,14 +147,23 @@ impl Exact for MINIDUMP_HANDLE_OBJECT_INFORMATION {
 #[allow(non_camel_case_types)]
 #[derive(Clone, Copy, Debug, PartialEq, Eq)]
 pub enum MINIDUMP_HANDLE_OBJECT_INFORMATION_TYPE {
+    /// No information.
     MiniHandleObjectInformationNone = 0,
+    /// Information on a thread.
     MiniThreadInformation1 = 1,
+    /// Information on a mutant, which is a mutex.
     MiniMutantInformation1 = 2,
+    /// Other information on a mutant.
     MiniMutantInformation2 = 3,
+    /// Information on a process.
     MiniProcessInformation1 = 4,
+    /// Other information on a process.
     MiniProcessInformation2 = 5,
+    /// Information on an event.
     MiniEventInformation1 = 6,
+    /// Information on a section.
     MiniSectionInformation1 = 7,
+    /// Information on a semaphore.
     MiniSemaphoreInformation1 = 8,
 }
 

@@ -37,8 +37,8 @@ impl Record for MINIDUMP_MAC_CRASH_INFO {
     ghost fits = { Prim.search rules };
 }
 
-/// The head of each record of crash information, and all of version 1: Mozilla's
-/// `MDRawMacCrashInfoRecord`.
+/// The head of each record of crash information, and all that is read of one of version 1 to 3:
+/// Mozilla's `MDRawMacCrashInfoRecord`.
 #[derive(Clone, Copy, Debug, PartialEq, Eq)]
 pub struct MINIDUMP_MAC_CRASH_INFO_RECORD {
     /// The type of the stream, as a number.
@@ -70,7 +70,7 @@ impl Exact for MINIDUMP_MAC_CRASH_INFO_RECORD {
     ghost exact = { Prim.search rules };
 }
 
-/// A record of crash information from version 4 on, before its texts.
+/// A record of crash information of version 4, before its texts.
 #[derive(Clone, Copy, Debug, PartialEq, Eq)]
 pub struct MINIDUMP_MAC_CRASH_INFO_RECORD_4 {
     /// The type of the stream, as a number.
@@ -108,7 +108,7 @@ impl Exact for MINIDUMP_MAC_CRASH_INFO_RECORD_4 {
     ghost exact = { Prim.search rules };
 }
 
-/// A record of crash information from version 5 on, before its texts.
+/// A record of crash information of version 5 or above, before its texts.
 #[derive(Clone, Copy, Debug, PartialEq, Eq)]
 pub struct MINIDUMP_MAC_CRASH_INFO_RECORD_5 {
     /// The type of the stream, as a number.
@@ -181,7 +181,7 @@ impl Exact for MINIDUMP_MAC_BOOTARGS {
     ghost exact = { Prim.search rules };
 }
 
-/// The texts of a record of version 1: none.
+/// The texts of a record of version 1 to 3: none.
 #[derive(Clone, Copy, Debug, PartialEq, Eq)]
 pub struct MINIDUMP_MAC_CRASH_INFO_RECORD_STRINGS {}
 
@@ -204,7 +204,7 @@ pub struct MINIDUMP_MAC_CRASH_INFO_RECORD_STRINGS_4 {
     pub message2: String,
 }
 
-/// The texts of a record from version 5 on, in their order.
+/// The texts of a record of version 5 or above, in their order.
 #[derive(Drop)]
 pub struct MINIDUMP_MAC_CRASH_INFO_RECORD_STRINGS_5 {
     /// The path of the module that the record belongs to.

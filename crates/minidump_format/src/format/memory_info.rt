@@ -66,17 +66,25 @@ bitflag_items! {
     impl MemoryProtection: u32 {
         /// No access.
         const PAGE_NOACCESS = 0x1;
+        /// Reads.
         const PAGE_READONLY = 0x2;
+        /// Reads and writes.
         const PAGE_READWRITE = 0x4;
         /// Reads, and writes to a private copy.
         const PAGE_WRITECOPY = 0x8;
+        /// Execution.
         const PAGE_EXECUTE = 0x10;
+        /// Execution and reads.
         const PAGE_EXECUTE_READ = 0x20;
+        /// Execution, reads and writes.
         const PAGE_EXECUTE_READWRITE = 0x40;
+        /// Execution, reads, and writes to a private copy.
         const PAGE_EXECUTE_WRITECOPY = 0x80;
         /// The first access raises an exception.
         const PAGE_GUARD = 0x100;
+        /// The pages are not cached.
         const PAGE_NOCACHE = 0x200;
+        /// Writes may be combined.
         const PAGE_WRITECOMBINE = 0x400;
     }
 }

@@ -3,34 +3,60 @@ ghost use Rattle.minidump_format.specs.StreamType.{is_unimplemented, number_of, 
 ghost use Rattle.minidump_format.specs.StreamType.{stream_type_of};
 
 /// The named types of stream: Microsoft's `MINIDUMP_STREAM_TYPE`, with the extensions of Breakpad,
-/// Crashpad, Chromium and Mozilla.
+/// Crashpad, Chromium and Mozilla. The types from `ceStreamNull` to `ceStreamDiagnosisList` are
+/// those of Windows CE.
 #[allow(non_camel_case_types)]
 #[derive(Clone, Copy, Debug, PartialEq, Eq)]
 pub enum MINIDUMP_STREAM_TYPE {
+    /// Reserved.
     UnusedStream = 0,
+    /// Reserved.
     ReservedStream0 = 1,
+    /// Reserved.
     ReservedStream1 = 2,
+    /// The threads: Microsoft's `MINIDUMP_THREAD_LIST`.
     ThreadListStream = 3,
+    /// The loaded modules: Microsoft's `MINIDUMP_MODULE_LIST`.
     ModuleListStream = 4,
+    /// Regions of memory: Microsoft's `MINIDUMP_MEMORY_LIST`.
     MemoryListStream = 5,
+    /// The exception: Microsoft's `MINIDUMP_EXCEPTION_STREAM`.
     ExceptionStream = 6,
+    /// The system information: Microsoft's `MINIDUMP_SYSTEM_INFO`.
     SystemInfoStream = 7,
+    /// The threads with their backing stores: Microsoft's `MINIDUMP_THREAD_EX_LIST`.
     ThreadExListStream = 8,
+    /// Regions of memory of a full dump: Microsoft's `MINIDUMP_MEMORY64_LIST`.
     Memory64ListStream = 9,
+    /// A comment in ANSI.
     CommentStreamA = 10,
+    /// A comment in UTF-16.
     CommentStreamW = 11,
+    /// The open handles: Microsoft's `MINIDUMP_HANDLE_DATA_STREAM`.
     HandleDataStream = 12,
+    /// The function tables: Microsoft's `MINIDUMP_FUNCTION_TABLE_STREAM`.
     FunctionTable = 13,
+    /// The unloaded modules: Microsoft's `MINIDUMP_UNLOADED_MODULE_LIST`.
     UnloadedModuleListStream = 14,
+    /// The misc information: Microsoft's `MINIDUMP_MISC_INFO` and its later layouts.
     MiscInfoStream = 15,
+    /// Information on regions of memory: Microsoft's `MINIDUMP_MEMORY_INFO_LIST`.
     MemoryInfoListStream = 16,
+    /// The states of the threads: Microsoft's `MINIDUMP_THREAD_INFO_LIST`.
     ThreadInfoListStream = 17,
+    /// Operations on handles: Microsoft's `MINIDUMP_HANDLE_OPERATION_LIST`.
     HandleOperationListStream = 18,
+    /// Security tokens: Microsoft's `MINIDUMP_TOKEN_INFO_LIST`.
     TokenStream = 19,
+    /// Data of JavaScript.
     JavaScriptDataStream = 20,
+    /// The memory of the system: Microsoft's `MINIDUMP_SYSTEM_MEMORY_INFO_1`.
     SystemMemoryInfoStream = 21,
+    /// The virtual memory of the process: Microsoft's `MINIDUMP_PROCESS_VM_COUNTERS_1`.
     ProcessVmCountersStream = 22,
+    /// A trace of Intel Processor Trace.
     IptTraceStream = 23,
+    /// The names of the threads: Microsoft's `MINIDUMP_THREAD_NAME_LIST`.
     ThreadNamesStream = 24,
     ceStreamNull = 0x8000,
     ceStreamSystemInfo = 0x8001,
@@ -45,22 +71,39 @@ pub enum MINIDUMP_STREAM_TYPE {
     ceStreamBucketParameters = 0x800a,
     ceStreamProcessModuleMap = 0x800b,
     ceStreamDiagnosisList = 0x800c,
+    /// The last number that is reserved for Microsoft.
     LastReservedStream = 0xffff,
+    /// The threads that wrote and requested the dump: Breakpad's `MDRawBreakpadInfo`.
     BreakpadInfoStream = 0x4767_0001,
+    /// An assertion that failed: Breakpad's `MDRawAssertionInfo`.
     AssertionInfoStream = 0x4767_0002,
+    /// The text of `/proc/cpuinfo`.
     LinuxCpuInfo = 0x4767_0003,
+    /// The text of `/proc/PID/status`.
     LinuxProcStatus = 0x4767_0004,
+    /// The text of `/etc/lsb-release`.
     LinuxLsbRelease = 0x4767_0005,
+    /// The bytes of `/proc/PID/cmdline`.
     LinuxCmdLine = 0x4767_0006,
+    /// The text of `/proc/PID/environ`.
     LinuxEnviron = 0x4767_0007,
+    /// The bytes of `/proc/PID/auxv`.
     LinuxAuxv = 0x4767_0008,
+    /// The text of `/proc/PID/maps`.
     LinuxMaps = 0x4767_0009,
+    /// The loaded shared objects: Breakpad's `MDRawDebug32` or `MDRawDebug64`.
     LinuxDsoDebug = 0x4767_000a,
+    /// Crashpad's information on the process: `MinidumpCrashpadInfo`.
     CrashpadInfoStream = 0x4350_0001,
+    /// The crash information of macOS: Mozilla's `MDRawMacCrashInfo`.
     MozMacosCrashInfoStream = 0x4d7a_0001,
+    /// The boot arguments of macOS: Mozilla's `MDRawMacBootargs`.
     MozMacosBootargsStream = 0x4d7a_0002,
+    /// The text of `/proc/PID/limits`.
     MozLinuxLimits = 0x4d7a_0003,
+    /// The errors that the dump's writer met and got over, in JSON.
     MozSoftErrors = 0x4d7a_0004,
+    /// Chromium's `StabilityReport`, a message in Protocol Buffers.
     StabilityReportStream = 0x4b6b_0002,
 }
 

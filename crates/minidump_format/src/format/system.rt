@@ -67,7 +67,7 @@ impl Record for MINIDUMP_SYSTEM_INFO {
     ghost fits = { Prim.search rules };
 }
 
-/// The x86 CPU information: the vendor's 12 characters.
+/// The CPU information of x86, 24 bytes: Microsoft's `X86CpuInfo` of `CPU_INFORMATION`.
 #[derive(Clone, Copy, Debug, PartialEq, Eq)]
 pub struct X86CpuInfo {
     /// The vendor's 12 characters, the lowest byte of each number first.
@@ -95,7 +95,8 @@ impl Record for X86CpuInfo {
     ghost fits = { Prim.search rules };
 }
 
-/// The ARM CPU information: cpuid and feature bits.
+/// The CPU information of ARM, the first 8 of the 24 bytes: Breakpad's `arm_cpu_info` of
+/// `MDCPUInformation`.
 #[derive(Clone, Copy, Debug, PartialEq, Eq)]
 pub struct ARMCpuInfo {
     /// The main id register, which names the implementer and the part.
@@ -127,16 +128,27 @@ impl Record for ARMCpuInfo {
 #[allow(non_camel_case_types)]
 #[derive(Clone, Copy, Debug, PartialEq, Eq)]
 pub enum ProcessorArchitecture {
+    /// x86.
     PROCESSOR_ARCHITECTURE_INTEL = 0,
+    /// MIPS, 32 bits.
     PROCESSOR_ARCHITECTURE_MIPS = 1,
+    /// PowerPC, 32 bits.
     PROCESSOR_ARCHITECTURE_PPC = 3,
+    /// ARM, 32 bits.
     PROCESSOR_ARCHITECTURE_ARM = 5,
+    /// x86-64.
     PROCESSOR_ARCHITECTURE_AMD64 = 9,
+    /// x86, on Windows of 64 bits.
     PROCESSOR_ARCHITECTURE_IA32_ON_WIN64 = 10,
+    /// ARM64.
     PROCESSOR_ARCHITECTURE_ARM64 = 12,
+    /// SPARC, Breakpad's number.
     PROCESSOR_ARCHITECTURE_SPARC = 0x8001,
+    /// PowerPC, 64 bits, Breakpad's number.
     PROCESSOR_ARCHITECTURE_PPC64 = 0x8002,
+    /// ARM64, the number that Breakpad had first.
     PROCESSOR_ARCHITECTURE_ARM64_OLD = 0x8003,
+    /// MIPS, 64 bits, Breakpad's number.
     PROCESSOR_ARCHITECTURE_MIPS64 = 0x8004,
 }
 
@@ -173,19 +185,28 @@ impl ProcessorArchitecture {
 #[allow(non_camel_case_types)]
 #[derive(Clone, Copy, Debug, PartialEq, Eq)]
 pub enum PlatformId {
+    /// Windows 95, 98 and Me.
     VER_PLATFORM_WIN32_WINDOWS = 1,
+    /// Windows NT and later.
     VER_PLATFORM_WIN32_NT = 2,
+    /// macOS.
     MacOs = 0x8101,
+    /// iOS.
     Ios = 0x8102,
+    /// Linux.
     Linux = 0x8201,
+    /// Solaris.
     Solaris = 0x8202,
+    /// Android.
     Android = 0x8203,
+    /// PlayStation 3.
     Ps3 = 0x8204,
+    /// Native Client.
     NaCl = 0x8205,
 }
 
 impl PlatformId {
-    /// Returns the operating system with the number `n`, or `None` if there is none.
+    /// Returns the platform with the number `n`, or `None` if there is none.
     pub fn from_u32(n: u32) -> Option<PlatformId>
         ensures { result ≡ platform_of n }
     {
@@ -203,7 +224,7 @@ impl PlatformId {
         })
     }
 
-    /// Returns the number of the operating system.
+    /// Returns the number of the platform.
     pub fn number(self) -> u32
         ensures { result ≡ platform_number self }
     {

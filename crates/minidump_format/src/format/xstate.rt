@@ -50,20 +50,30 @@ impl<'a> Iterator for XstateFeatures<'a> {
 #[allow(non_camel_case_types)]
 #[derive(Clone, Copy, Debug, PartialEq, Eq)]
 pub enum XstateFeatureIndex {
+    /// The x87 state.
     LEGACY_FLOATING_POINT = 0,
+    /// The SSE state.
     LEGACY_SSE = 1,
+    /// The AVX state: the upper halves of the registers `ymm0` to `ymm15`.
     GSSE = 2,
+    /// The bounds registers of MPX.
     MPX_BNDREGS = 3,
+    /// The configuration and status registers of MPX.
     MPX_BNDCSR = 4,
+    /// The mask registers of AVX-512.
     AVX512_KMASK = 5,
+    /// The upper halves of the registers `zmm0` to `zmm15`.
     AVX512_ZMM_H = 6,
+    /// The registers `zmm16` to `zmm31`.
     AVX512_ZMM = 7,
+    /// The state of Intel Processor Trace.
     XSTATE_IPT = 8,
+    /// The state of AMD's Lightweight Profiling.
     LWP = 62,
 }
 
 impl XstateFeatureIndex {
-    /// Returns the feature with an index, or `None` if there is none.
+    /// Returns the named feature with this index, or `None` if there is none.
     pub fn from_index(index: usize) -> Option<XstateFeatureIndex>
         ensures { result ≡ feature_of index }
     {
@@ -89,7 +99,7 @@ impl XstateFeatureIndex {
         self as usize
     }
 
-    /// Returns the name of the feature.
+    /// Returns the name of the feature, as it stands in this enum.
     pub fn name(self) -> &'static str
         ensures { result.now ≡ index_name self }
     {

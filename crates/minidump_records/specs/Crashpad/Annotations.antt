@@ -35,7 +35,7 @@ annotation_in order file raw =
     else (
     if nat_le 0x8000 raw.ty then Ok (user_defined raw) else Ok (unsupported raw)))
 
--- the reads of a value: that of a text
+-- the reads of a value: one for a text, none for another
 abbrev pub annotation_reads : Annotation → ℕ
 annotation_reads (text bytes) = 1
 annotation_reads _ = 0

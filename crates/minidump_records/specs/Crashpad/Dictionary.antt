@@ -14,7 +14,7 @@ use Rattle.minidump_system.specs.Reads.{and_then}
 use Rattle.minidump_records.specs.declared.crashpad.dictionary.Pair.{Pair}
 use Rattle.minidump_records.specs.Crashpad.Parts.{untested_list}
 
--- the text at an RVA, up to the NUL that has to come after it
+-- the text at an RVA, after which a NUL has to stand
 abbrev pub text_in : Endian → List ℕ → ℕ → Result (List ℕ) Error
 text_in order file rva = ok_or (text8_nul order rva file) StreamReadFailure
 
@@ -32,7 +32,7 @@ pair_in key value order file e =
 abbrev pub pair_of : {V W : Type 0} → (V → W) → Pair V → List ℕ × W
 pair_of value p = (string_bytes p.key, value p.value)
 
--- the entries of a map of texts, ascending by the bytes of the key
+-- the entries of a map whose keys are texts, ascending by the bytes of the key
 abbrev pub entries_of : {V W : Type 0} → (V → W) → List (String Global × V) → List (List ℕ × W)
 entries_of value es = map (λ e. (string_bytes e.0, value e.1)) es
 

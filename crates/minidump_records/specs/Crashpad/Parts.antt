@@ -40,7 +40,7 @@ list_at order file l =
 abbrev pub CountsEntry : Endian → List ℕ → MINIDUMP_LOCATION_DESCRIPTOR → Type 0
 CountsEntry order file l = IsOkAnd (list_at order file l) (λ list. 0 < list.count)
 
--- the reads of a list before its entries: its bytes, and its count where it has one
+-- the reads of a list before its entries: its bytes, and its count unless its location is empty
 abbrev pub list_reads : MINIDUMP_LOCATION_DESCRIPTOR → ℕ
 list_reads l = if l.data_size == 0 then 1 else 2
 
@@ -70,14 +70,14 @@ module _ {R V : Type 0} (layout : Layout R) (part : Endian → List ℕ → R �
       then Err (StreamSizeMismatch (layout.size * list.count) (length file))
       else parts list)
 
--- the reads of the part that an entry names: that of the entry, and those of the part, if the
--- entry, which ends at an offset, is in so many bytes
+-- the most steps from `old` to `new` for the entry that ends at the offset `entry_end`: one for the
+-- entry, and those of the part that it names only if the entry lies within the bytes
 abbrev pub WithinPart : ℕ → ℕ → ℕ → ℕ → ℕ → Type 0
 WithinPart entry_end bytes part_reads old new =
     (new ≤ old + 1) ⊎ ((entry_end ≤ bytes) × (new ≤ old + 1 + part_reads))
 
--- the reads of the entries in so many bytes: for each entry one, and those of the part that it
--- names; and one more if an entry is missing
+-- the most steps from `old` to `new` for entries within a number of bytes: one for each entry, and
+-- those of the part that it names; and one more for an entry that is missing
 abbrev pub WithinParts : ℕ → ℕ → ℕ → ℕ → ℕ → Type 0
 WithinParts entry_size bytes part_reads old new =
     (k : ℕ) × (entry_size * k ≤ bytes) × (new ≤ old + 1 + k * (1 + part_reads))

@@ -40,7 +40,8 @@ abbrev pub pointer_count : RawHandleDescriptor → Option ℕ
 pointer_count (HandleDescriptor raw) = Some raw.pointer_count
 pointer_count (HandleDescriptor2 raw) = Some raw.pointer_count
 
--- the first has no such field
+-- ObjectInfoRva: where the first piece of information on the object is. The first layout has no
+-- such field
 abbrev pub object_info_rva : RawHandleDescriptor → Option ℕ
 object_info_rva (HandleDescriptor raw) = None
 object_info_rva (HandleDescriptor2 raw) = Some raw.object_info_rva

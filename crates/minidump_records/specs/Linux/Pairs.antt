@@ -5,7 +5,7 @@ use Rattle.std.specs.List.{filter_map}
 use Rattle.std.specs.Option.{option_map}
 use Rattle.minidump_bytes.specs.LinuxOsStr.{cut_first, text_lines, trimmed}
 
--- a quote at each end, which are two bytes
+-- the text has two bytes or more, and a quote at each end
 abbrev is_quoted : List ℕ → Bool
 is_quoted text =
     nat_le 2 (length text) && (slice_index text 0 == 34 && slice_index text (length text - 1) == 34)

@@ -25,27 +25,27 @@ pair_line pair = concat (codes "  " ∷ pair.0 ∷ codes " = " ∷ pair.1 ∷ co
 unfoldable pub limit_line : List ℕ → List ℕ
 limit_line line = concat (codes "  " ∷ line ∷ codes "\n" ∷ [])
 
--- a text of pairs around a separator
+-- the printed text of a file whose lines are pairs around a separator
 abbrev pub linux_pairs_text : MINIDUMP_STREAM_TYPE → ℕ → List ℕ → List ℕ
 linux_pairs_text stream_type separator text =
     name_line stream_type ++ flat_map pair_line (pairs_of separator text)
 
--- the separators of cpuinfo and status are colons
+-- the printed text of /proc/cpuinfo; its separator is a colon
 abbrev pub linux_cpu_info_text : List ℕ → List ℕ
 linux_cpu_info_text text = linux_pairs_text LinuxCpuInfo 58 text
 
--- the printed text of /proc/PID/status
+-- the printed text of /proc/PID/status; its separator is a colon
 abbrev pub linux_proc_status_text : List ℕ → List ℕ
 linux_proc_status_text text = linux_pairs_text LinuxProcStatus 58 text
 
--- those of lsb-release and the environment are equals signs
+-- the printed text of /etc/lsb-release; its separator is an equals sign
 abbrev pub linux_lsb_release_text : List ℕ → List ℕ
 linux_lsb_release_text text = linux_pairs_text LinuxLsbRelease 61 text
 
--- the printed text of /proc/PID/environ
+-- the printed text of /proc/PID/environ; its separator is an equals sign
 abbrev pub linux_environ_text : List ℕ → List ℕ
 linux_environ_text text = linux_pairs_text LinuxEnviron 61 text
 
--- the limits of a process
+-- the printed text of /proc/PID/limits
 abbrev pub linux_proc_limits_text : List ℕ → List ℕ
 linux_proc_limits_text text = name_line MozLinuxLimits ++ flat_map limit_line (text_lines text)

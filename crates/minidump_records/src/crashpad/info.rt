@@ -50,9 +50,11 @@ fn read_record(
 /// Reads Crashpad's `MinidumpCrashpadInfo`: a record, then its dictionary and its list of links to
 /// modules.
 ///
-/// Returns `StreamReadFailure` if a record, a location, a text or an entry isn't in the file,
-/// `StreamSizeMismatch` if a list of texts or of links counts more bytes than the file has,
-/// `VersionMismatch` if the version of the record is 0.
+/// Returns `StreamReadFailure` if a record, a location or a text is not in the file, if a list ends
+/// before its count or one of its entries, if a text is not UTF-8, or if no NUL follows a text
+/// other than the value of an annotation. Returns `StreamSizeMismatch` if the entries that a list
+/// of texts or of links counts would be more bytes than the file has, and `VersionMismatch` if the
+/// version of the record is 0.
 impl<'a> MinidumpStream<'a> for MinidumpCrashpadInfo {
     ghost use Rattle.minidump_records.specs.Crashpad.{Crashpad, crashpad_info_stream};
 

@@ -33,10 +33,11 @@ impl MinidumpModuleCrashpadInfo {
     /// then its three lists in the order of the record. Ignores the size that the link states, and
     /// the version of the record.
     ///
-    /// Returns `StreamReadFailure` if a record, a location, a text or an entry is not in the file,
-    /// `StreamSizeMismatch` if the entries that the list of texts counts would be more bytes than
-    /// the file has, and `OutOfMemory` if an allocation fails. Memory is taken only if one of the
-    /// lists counts an entry.
+    /// Returns `StreamReadFailure` if a record, a location or a text is not in the file, if a list
+    /// ends before its count or one of its entries, if a text is not UTF-8, or if no NUL follows a
+    /// text other than the value of an annotation. Returns `StreamSizeMismatch` if the entries that
+    /// the list of texts counts would be more bytes than the file has, and `OutOfMemory` if an
+    /// allocation fails. Memory is taken only if one of the lists counts an entry.
     pub fn read(
         alloc: Global,
         link: MINIDUMP_MODULE_CRASHPAD_INFO_LINK,

@@ -153,8 +153,8 @@ pub(crate) fn read_untested<E: Record + Drop, P: Part<E> + Drop>(
     read_parts(alloc, bytes, count, all, endian, steps)
 }
 
-/// Reads the parts of the list at a location. Returns `StreamSizeMismatch` if `count` entries are
-/// more bytes than the whole file has.
+/// Reads the parts of the list at a location. Returns `StreamSizeMismatch` if the entries that it
+/// counts would be more bytes than the whole file has.
 #[tactic(auto, unfolding(crate::specs::Crashpad::Parts::tested_list))]
 pub(crate) fn read_list<E: Record + Drop, P: Part<E> + Drop>(
     alloc: Global,

@@ -41,8 +41,8 @@ pub(super) fn read_chain(
     Ok(infos)
 }
 
-// Appends a piece of information. Most objects have one: so the first piece takes room for itself
-// alone.
+// Appends a piece of information. Most objects have only one, so the first piece reserves room for
+// itself alone.
 fn push_piece(
     infos: &mut Vec<MinidumpHandleObjectInformation>,
     info: MinidumpHandleObjectInformation,

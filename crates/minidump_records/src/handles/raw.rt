@@ -11,7 +11,9 @@ use minidump_format::format::{MINIDUMP_HANDLE_DESCRIPTOR, MINIDUMP_HANDLE_DESCRI
 /// two more.
 #[derive(Clone, Copy)]
 pub enum RawHandleDescriptor {
+    /// The first layout, of 32 bytes.
     HandleDescriptor(MINIDUMP_HANDLE_DESCRIPTOR),
+    /// The second layout, of 40 bytes.
     HandleDescriptor2(MINIDUMP_HANDLE_DESCRIPTOR_2),
 }
 
@@ -25,7 +27,7 @@ macro_rules! of_either {
     };
 }
 
-/// The fields. Each is `None` if the layout doesn't have it.
+/// The fields. Only `object_info_rva` may be `None`, since the first layout doesn't have it.
 impl RawHandleDescriptor {
     /// Returns the value of the handle.
     pub fn handle(&self) -> Option<&u64>
@@ -76,7 +78,8 @@ impl RawHandleDescriptor {
         of_either!(self, raw => Some(&raw.pointer_count))
     }
 
-    /// Returns the RVA of the first piece of information on its object, or 0 if there is none.
+    /// Returns the RVA of the first piece of information on its object, which is 0 if there is
+    /// none, or `None` if the descriptor has the first layout.
     pub fn object_info_rva(&self) -> Option<&RVA>
         ensures { option_copied result ≡ object_info_rva self.now }
     {

@@ -20,8 +20,8 @@ pub type MinidumpLinuxProcStatus<'a> = LinuxText<'a, ProcStatus>;
 /// The text of `/etc/lsb-release`. Each line is a key and a value around an equals sign.
 pub type MinidumpLinuxLsbRelease<'a> = LinuxText<'a, LsbRelease>;
 
-/// The text of `/proc/PID/environ`. Each line is a key and a value around an equals sign, and ends
-/// with a NUL.
+/// The text of `/proc/PID/environ`. Each entry is a key and a value around an equals sign, and ends
+/// with a NUL. As in the other texts, a line feed ends an entry, too.
 pub type MinidumpLinuxEnviron<'a> = LinuxText<'a, Environ>;
 
 /// The text of `/proc/PID/limits`. Each line is a limit.

@@ -7,8 +7,9 @@ ghost use Rattle.minidump_records.specs.Linux.Pairs.{pair_of, pair_side, pairs_o
 use minidump_bytes::{Lines, LinuxOsStr};
 use std::marker::Model;
 
-/// An iterator over the pairs of a text that Linux wrote. Each line that has the separator is cut
-/// at the first one into a key and a value. Both are trimmed, and then lose their quotes.
+/// An iterator over the pairs of a text that Linux wrote. Each line is cut at its first separator
+/// into a key and a value; a line without one is skipped. Both are trimmed of ASCII white space,
+/// and then lose their quotes if they have one at each end.
 #[derive(Drop)]
 pub struct LinuxPairs<'a> {
     lines: Lines<'a>,

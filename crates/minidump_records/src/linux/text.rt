@@ -67,7 +67,8 @@ impl<'a, F> LinuxText<'a, F> {
 impl<'a, F: LinuxPairsFile> LinuxText<'a, F> {
     ghost use Rattle.minidump_records.specs.Linux.{linux_text_of};
 
-    /// Returns an iterator over the pairs of its lines. Each line is cut at the first separator.
+    /// Returns an iterator over the pairs of its lines. Each line is cut at its first separator,
+    /// and one without a separator is skipped.
     pub fn iter(&self) -> LinuxPairs<'a>
         ensures { result ≡ pairs_of F.SEPARATOR (linux_text_of self.now) }
     {

@@ -17,7 +17,8 @@ use std::alloc::{AllocError, Global};
 use std::io::Write;
 
 impl MinidumpMacCrashInfo {
-    /// Prints the count of the records, and each field of each record, or nothing if it is `None`.
+    /// Prints the number of records, and the fields of each record. After the label of a field that
+    /// is `None` nothing is printed.
     #[tactic(auto, using(minidump_format::proofs::Printing::prints_then, minidump_format::proofs::Printing::prints_exit))]
     pub fn print<W: Write>(&self, alloc: Global, f: &mut Told<W>) -> Result<(), Error>
         ensures { Prints W.contents f.old f.new

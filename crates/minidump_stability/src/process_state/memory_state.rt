@@ -9,13 +9,13 @@ use std::alloc::Global;
 /// The memory of a process on Windows.
 #[derive(Clone, Copy, PartialEq, Eq)]
 pub struct WindowsMemory {
-    /// How many private bytes the process has.
+    /// The private memory of the process, in pages.
     pub process_private_usage: Option<u32>,
-    /// The largest size of the working set of the process.
+    /// The largest size of the working set of the process, in pages.
     pub process_peak_workingset_size: Option<u32>,
-    /// The most that the process used of the page file.
+    /// The most that the process used of the page file, in pages.
     pub process_peak_pagefile_usage: Option<u32>,
-    /// The size of the allocation that failed.
+    /// The size of the allocation that failed, in bytes.
     pub process_allocation_attempt: Option<u32>,
 }
 

@@ -4,8 +4,8 @@ use minidump_synth::{FailsAt, OneByte, TakesNone};
 use std::alloc::Global;
 use std::io::ErrorKind;
 
-// Whether a writer of one byte a call whose calls fail from a number on takes that many of five
-// bytes. From a failure on it is not called again, not by a write of nothing either.
+// Whether a writer that takes one byte a call, and whose calls fail from number `at` on, takes `at`
+// of five bytes, or all. After a failure it is not called again, not by a write of nothing either.
 fn takes_up_to(alloc: Global, at: usize, kind: ErrorKind) -> bool {
     let text = b"abcde";
     let mut f = Told::new(FailsAt::with_kind(OneByte::new(Vec::new(alloc)), at, kind));

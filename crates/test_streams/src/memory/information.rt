@@ -23,7 +23,8 @@ const ACCESS: &[(u32, u32, (bool, bool, bool))] = &[
     (0x8000_0104, 0x104, (true, true, false)),
 ];
 
-// The region ends beyond the last address.
+// Tests whether a region of a protection has its bits and allows what the row says. The region ends
+// beyond the last address, so it has no range.
 fn allows(alloc: Global, row: &(u32, u32, (bool, bool, bool))) -> Result<bool, Error> {
     let (protection, bits, access) = *row;
     let raw = MINIDUMP_MEMORY_INFO {

@@ -5,7 +5,7 @@ use minidump_bytes::{Endian, Record, array_at};
 /// The floating-point state of an ARM processor: Breakpad's `MDFloatingSaveAreaARM`.
 #[derive(Clone, Copy, Debug)]
 pub struct FLOATING_SAVE_AREA_ARM {
-    /// The status and control register.
+    /// The floating-point status and control register `fpscr`.
     pub fpscr: u64,
     /// The registers d0 to d31.
     pub regs: [u64; 32],

@@ -13,14 +13,23 @@ pub struct ContextFlagsCpu(u32);
 
 bitflag_items! {
     impl ContextFlagsCpu: u32 {
+        /// x86.
         const CONTEXT_X86 = 0x1_0000;
+        /// MIPS, 32 bits.
         const CONTEXT_MIPS = 0x4_0000;
+        /// MIPS, 64 bits.
         const CONTEXT_MIPS64 = 0x8_0000;
+        /// x86-64.
         const CONTEXT_AMD64 = 0x10_0000;
+        /// ARM64.
         const CONTEXT_ARM64 = 0x40_0000;
+        /// PowerPC, 64 bits.
         const CONTEXT_PPC64 = 0x100_0000;
+        /// SPARC.
         const CONTEXT_SPARC = 0x1000_0000;
+        /// PowerPC, 32 bits.
         const CONTEXT_PPC = 0x2000_0000;
+        /// ARM, 32 bits.
         const CONTEXT_ARM = 0x4000_0000;
         /// ARM64, in Breakpad's first layout.
         const CONTEXT_ARM64_OLD = 0x8000_0000;
