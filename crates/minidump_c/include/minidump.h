@@ -180,7 +180,7 @@ enum minidump_end {
     MINIDUMP_END_NO_FRAME_POINTER = 3,    /* the frame pointer isn't known */
     MINIDUMP_END_ZERO_FRAME_POINTER = 4,  /* it is 0, as a thread's first function finds it */
     MINIDUMP_END_BELOW_STACK_POINTER = 5, /* it lies below the stack pointer */
-    MINIDUMP_END_NO_RECORD = 6,           /* the memory of the stack doesn't hold both words at it, or they end at 2^64 or beyond */
+    MINIDUMP_END_NO_RECORD = 6,           /* the stack doesn't hold both words at it, or they end at 2^64 or beyond */
     MINIDUMP_END_NO_CODE = 7              /* the return address is 0, or no module contains the address below it */
 };
 
