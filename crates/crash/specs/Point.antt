@@ -1,6 +1,6 @@
 -- Where a thread stands: what is known of its instruction pointer and of its registers, the code there,
 -- the words from its stack pointer up, and the flags and the segments of its processor.
-use Rattle.std.specs.Prelude.{ℕ, ◌+◌, ◌-◌, ◌*◌, ◌^◌, List, [], ◌∷◌, codes, drop, length, map, nat_lt}
+use Rattle.std.specs.Prelude.{ℕ, ◌+◌, ◌-◌, ◌*◌, ◌^◌, List, [], ◌∷◌, codes, drop, map, nat_lt}
 use Rattle.std.specs.Prelude.{Bool, bytes_eq, filter, not, take}
 use Rattle.std.specs.Prelude.{Option, None, if◌then◌else◌}
 use Rattle.std.specs.List.{filter_map, range_with_len}
@@ -11,8 +11,7 @@ use Rattle.minidump.specs.declared.MinidumpRawContext.TheVariants.{Amd64, Arm, A
 use Rattle.minidump.specs.Below.MemoryLists.Unified.{UnifiedRegion, UnifiedRegions}
 use Rattle.minidump.specs.Below.Modules.Module.{ModuleValue}
 use Rattle.minidump.specs.Below.System.Cpu.{pointer_bytes}
-use Rattle.stack_walk.specs.Frames.{StackValue, instruction_pointer_in, pointer_at, stack_bytes}
-use Rattle.stack_walk.specs.Frames.{stack_pointer_in}
+use Rattle.stack_walk.specs.Frames.{StackValue, instruction_pointer_in, pointer_at, stack_pointer_in}
 use Rattle.stack_walk.specs.Lookups.{module_place}
 use Rattle.crash.specs.declared.addresses.AddressFacts.{AddressFacts}
 use Rattle.crash.specs.declared.point.CrashPoint.{CrashPoint}
@@ -91,10 +90,9 @@ word_in s address = if nat_lt address (2 ^ 64)
 unfoldable pub word_at : StackValue → ℕ → ℕ → Option StackWord
 word_at s from index = option_and_then (λ size. word_in s (from + index * size)) (pointer_bytes s.width)
 
--- the words from an address up, at most so many, of as many as the stack has bytes
+-- those of so many words from an address up that the stack has
 abbrev pub words_from : StackValue → ℕ → ℕ → List StackWord
-words_from s from limit =
-    take limit (filter_map (λ index. word_at s from index) (range_with_len 0 (length (stack_bytes s))))
+words_from s from limit = filter_map (λ index. word_at s from index) (range_with_len 0 limit)
 
 -- ---- the flags
 

@@ -1,9 +1,9 @@
 //! Where a thread stands.
-ghost use Rattle.std.specs.Prelude.{◌≡◌, IfOk, length, map, take};
+ghost use Rattle.std.specs.Prelude.{◌≡◌, IfOk, map, take};
 ghost use Rattle.std.specs.Option.{option_map};
 ghost use Rattle.minidump.specs.Below.MemoryLists.Unified.{unified_list, unified_region};
 ghost use Rattle.minidump.specs.Promise.{module_list_stream};
-ghost use Rattle.stack_walk.specs.Frames.{instruction_pointer_in, stack_bytes, stack_of, stack_pointer_in};
+ghost use Rattle.stack_walk.specs.Frames.{instruction_pointer_in, stack_of, stack_pointer_in};
 ghost use Rattle.crash.specs.Contents.{contents_of};
 ghost use Rattle.crash.specs.Point.{code_at, code_of, flags_of, point_by, point_in, point_of};
 ghost use Rattle.crash.specs.Point.{facts_of_each, holds_address, register_facts, word_at};
@@ -32,7 +32,7 @@ pub struct CrashPoint<'a> {
     pub registers: Vec<(&'static str, AddressFacts)>,
     /// The bytes from the instruction pointer on, at most 16; none if the dump lacks them.
     pub code: &'a [u8],
-    /// The words from its stack pointer up, at most 16, as far as its stack has them.
+    /// Those of the 16 words from its stack pointer up that its stack has.
     pub words: Vec<StackWord>,
     /// The flags of its processor and the segments, each its name and its value: on x86-64 `eflags`,
     /// `cs`, `ss`, `ds`, `es`, `fs` and `gs`, on x86 those without `eflags`, which is among the
@@ -178,7 +178,7 @@ fn first_bytes(bytes: &[u8]) -> &[u8]
 
 // ---- the words
 
-// Returns the words of a stack from an address up, at most `limit`.
+// Returns those of `limit` words from an address up that a stack has.
 fn words_from(
     alloc: Global,
     stack: &Stack<'_, '_>,
@@ -187,20 +187,9 @@ fn words_from(
 ) -> Result<Vec<StackWord>, AllocError>
     ensures { IfOk result (λ words. words.items ≡ words_from (stack_of stack.now) from limit) }
 {
-    (0..len_of(stack))
+    (0..limit)
         .filter_map(|index| word_at(stack, from, index))
-        .take(limit)
         .collect(alloc)
-}
-
-// Returns how many bytes a stack has.
-fn len_of(stack: &Stack<'_, '_>) -> usize
-    ensures { result ≡ length (stack_bytes (stack_of stack.now)) }
-{
-    match stack.memory {
-        Some(memory) => memory.bytes().len(),
-        None => 0,
-    }
 }
 
 // Returns the word of a number from an address up.
