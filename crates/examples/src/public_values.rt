@@ -10,8 +10,6 @@
 //! that no public call returns, they would fail.
 //!
 //! Every other type of stream has public fields alone.
-#![tactic(auto)]
-
 ghost use Rattle.std.specs.Prelude.{◌≡◌, map, string_bytes};
 ghost use Rattle.std.specs.Option.{option_copied, option_map};
 ghost use Rattle.std.specs.Slice.Iter.{iter_rest};
