@@ -31,13 +31,12 @@ const UNLOADED: &[Unloaded] = &[
     (LAST, u64::MAX, &[(0xffff_ffff_ffff_f000, "last")]),
 ];
 
-// A dump of unloaded modules.
-fn unloaded_dump(
+// The records of unloaded modules, whose names are put into a dump.
+fn records(
     alloc: Global,
-    endian: Endian,
+    dump: &mut SynthMinidump,
     modules: &[(u64, u32, &str)],
-) -> Result<Vec<u8>, AllocError> {
-    let mut dump = SynthMinidump::new(alloc, endian);
+) -> Result<Vec<MINIDUMP_UNLOADED_MODULE>, AllocError> {
     let mut records = Vec::new(alloc);
     for (base_of_image, size_of_image, name) in modules {
         records.push(MINIDUMP_UNLOADED_MODULE {
@@ -48,6 +47,17 @@ fn unloaded_dump(
             module_name_rva: dump.add_text16(*name),
         })?;
     }
+    Ok(records)
+}
+
+// A dump of unloaded modules.
+fn unloaded_dump(
+    alloc: Global,
+    endian: Endian,
+    modules: &[(u64, u32, &str)],
+) -> Result<Vec<u8>, AllocError> {
+    let mut dump = SynthMinidump::new(alloc, endian);
+    let records = records(alloc, &mut dump, modules)?;
     dump.add_stream(14, dump.section().extended_list(12, &records));
     dump.finish()
 }

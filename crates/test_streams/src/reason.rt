@@ -9,6 +9,13 @@ use std::alloc::Global;
 
 type Lists = &'static [(CodeFamily, &'static [(u32, &'static str)])];
 
+// The text of a reason as it is written.
+fn written(alloc: Global, reason: CrashReason, names: &CodeNames<'_>) -> Result<Vec<u8>, Error> {
+    let mut f = Told::new(Vec::new(alloc));
+    reason.write_to(alloc, names, &mut f)?;
+    Ok(f.into_device())
+}
+
 // Tests whether the text of a reason, written or returned, is this one.
 fn has_text(
     alloc: Global,
@@ -16,9 +23,6 @@ fn has_text(
     names: &CodeNames<'_>,
     text: &str,
 ) -> Result<bool, Error> {
-    let mut f = Told::new(Vec::new(alloc));
-    reason.write_to(alloc, names, &mut f)?;
-    let bytes = f.into_device();
-    let as_text = reason.text(alloc, names)?;
-    Ok(bytes.as_slice() == text.as_bytes() && as_text.as_str() == text)
+    let is_written = written(alloc, reason, names)?.as_slice() == text.as_bytes();
+    Ok(is_written && reason.text(alloc, names)?.as_str() == text)
 }

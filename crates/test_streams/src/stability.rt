@@ -3,7 +3,6 @@ use minidump_bytes::{Endian, Steps};
 use minidump_format::Error;
 use minidump_stability::{ProcessState, StabilityReport, SystemMemoryState};
 use std::alloc::Global;
-use std::test::Fail;
 
 // The report that a stream of these bytes holds.
 fn read(alloc: Global, bytes: &[u8]) -> Result<StabilityReport, Error> {
@@ -49,10 +48,9 @@ fn has_an_empty_system(alloc: Global) -> Result<bool, Error> {
 }
 
 #[test]
-fn fields_are_read_by_the_wire_format(rt: HostRuntime) -> Result<(), Fail> {
+fn fields_are_read_by_the_wire_format(rt: HostRuntime) {
     for row in PROCESSES {
-        assert!(rt; has_processes(rt.alloc(), row)?, "{:?}", row.0);
+        assert!(rt; has_processes(rt.alloc(), row) == Ok(true), "{:?}", row.0);
     }
-    assert!(rt; has_an_empty_system(rt.alloc())?);
-    Ok(())
+    assert!(rt; has_an_empty_system(rt.alloc()) == Ok(true));
 }
