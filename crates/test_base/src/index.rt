@@ -3,7 +3,6 @@ use minidump_bytes::Steps;
 use minidump_format::Error;
 use minidump_index::{AddressIndex, Range, RegionList};
 use std::alloc::{AllocError, Global};
-use std::test::Fail;
 
 // The ranges of regions, by their bases and sizes.
 fn ranges_of(alloc: Global, regions: &[(u64, u64)]) -> Result<Vec<Option<Range>>, AllocError> {
@@ -66,22 +65,22 @@ const FOUND: &[(u64, Option<usize>)] = &[
     (0x2fff, Some(5)), (0x3000, None), (u64::MAX, None),
 ];
 
+fn keeps(alloc: Global, row: &(&[(u64, u64)], &[usize])) -> Result<bool, Error> {
+    Ok(kept_are(&index_of(alloc, row.0)?, row.1))
+}
+
+fn finds(alloc: Global, row: &(u64, Option<usize>)) -> Result<bool, Error> {
+    Ok(index_of(alloc, SIX)?.find(row.0, &mut Steps::new()) == row.1)
+}
+
 #[test]
-fn keeps_what_shares_no_address(rt: HostRuntime) -> Result<(), Fail> {
-    for (regions, kept) in KEPT {
-        assert!(rt;
-            kept_are(&index_of(rt.alloc(), *regions)?, *kept),
-            "{regions:?}"
-        );
+fn keeps_what_shares_no_address(rt: HostRuntime) {
+    for row in KEPT {
+        assert!(rt; keeps(rt.alloc(), row) == Ok(true), "{:?}", row.0);
     }
-    let index = index_of(rt.alloc(), SIX)?;
-    for (address, found) in FOUND {
-        assert!(rt;
-            index.find(*address, &mut Steps::new()) == *found,
-            "{address}"
-        );
+    for row in FOUND {
+        assert!(rt; finds(rt.alloc(), row) == Ok(true), "{}", row.0);
     }
-    Ok(())
 }
 
 // Eight regions of four addresses, ascending.
@@ -107,34 +106,50 @@ const DEPTHS: &[&[u128]] = &[
     &[4, 3, 3, 3, 3, 3, 3, 3],
 ];
 
-// Whether lookups compare with so many of these regions. A list that ascends is its own order by
-// address, and its lookups go down the same tree.
-fn depths_are(alloc: Global, regions: &[(u64, u64)], depths: &[u128]) -> Result<bool, Error> {
-    let index = index_of(alloc, regions)?;
-    let list = RegionList::from_regions(alloc, ranges_of(alloc, regions)?)?;
+// Whether lookups in an index compare with so many regions.
+fn index_has_depths(index: &AddressIndex, depths: &[u128]) -> bool {
     let mut holds = index.len() == depths.len();
     for ((base, _), depth) in UP.iter().zip(depths) {
         let mut steps = Steps::new();
         index.find(*base, &mut steps);
-        let mut of_list = Steps::new();
-        let found = list.at_address(*base, &mut of_list).copied().flatten();
-        holds = holds
-            && steps.count() == *depth
-            && of_list.count() == *depth
-            && found == Range::from_size(*base, 4);
+        holds = holds && steps.count() == *depth;
     }
-    Ok(holds)
+    holds
+}
+
+// Whether lookups in a list compare with so many regions, and find those.
+fn list_has_depths(list: &RegionList<Option<Range>>, depths: &[u128]) -> bool {
+    let mut holds = true;
+    for ((base, _), depth) in UP.iter().zip(depths) {
+        let mut steps = Steps::new();
+        let found = list.at_address(*base, &mut steps).copied().flatten();
+        holds = holds && steps.count() == *depth && found == Range::from_size(*base, 4);
+    }
+    holds
+}
+
+// Whether lookups compare with so many of these regions. A list that ascends is its own order by
+// address, and its lookups go down the same tree.
+fn depths_are(alloc: Global, regions: &[(u64, u64)], depths: &[u128]) -> Result<bool, Error> {
+    let list = RegionList::from_regions(alloc, ranges_of(alloc, regions)?)?;
+    Ok(list_has_depths(&list, depths) && index_has_depths(&index_of(alloc, regions)?, depths))
+}
+
+fn up_has(alloc: Global, depths: &[u128]) -> bool {
+    let regions = UP.get(..depths.len()).unwrap_or(&[]);
+    depths_are(alloc, regions, depths) == Ok(true)
+}
+
+fn down_has(alloc: Global, depths: &[u128]) -> bool {
+    let first = 8_usize.saturating_sub(depths.len());
+    let regions = DOWN.get(first..).unwrap_or(&[]);
+    depths_are(alloc, regions, depths) == Ok(true)
 }
 
 #[test]
-fn finds_regions_down_a_complete_tree(rt: HostRuntime) -> Result<(), Fail> {
+fn finds_regions_down_a_complete_tree(rt: HostRuntime) {
     for depths in DEPTHS {
-        let up = UP.get(..depths.len()).unwrap_or(&[]);
-        let down = DOWN
-            .get(8_usize.saturating_sub(depths.len())..)
-            .unwrap_or(&[]);
-        assert!(rt; depths_are(rt.alloc(), up, *depths)?, "{}", depths.len());
-        assert!(rt; depths_are(rt.alloc(), down, *depths)?, "{}", depths.len());
+        assert!(rt; up_has(rt.alloc(), *depths), "{}", depths.len());
+        assert!(rt; down_has(rt.alloc(), *depths), "{}", depths.len());
     }
-    Ok(())
 }
