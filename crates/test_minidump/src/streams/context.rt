@@ -1,11 +1,8 @@
-use crate::files::system;
-use minidump_bytes::{Endian, Record};
-use minidump_context::{
-    ContextError, CpuContext, CpuRegisterNames, MinidumpContext, MinidumpContextValidity,
-};
-use minidump_format::Error;
-use minidump_format::format::{
-    CONTEXT_AMD64, CONTEXT_ARM, CONTEXT_ARM64, CONTEXT_ARM64_OLD, CONTEXT_X86,
+use crate::streams::files::system;
+use minidump::format::{CONTEXT_AMD64, CONTEXT_ARM, CONTEXT_ARM64, CONTEXT_ARM64_OLD, CONTEXT_X86};
+use minidump::{
+    ContextError, CpuContext, CpuRegisterNames, Endian, Error, MinidumpContext,
+    MinidumpContextValidity, Record,
 };
 use std::alloc::{AllocError, Global};
 use std::collections::HashSet;
@@ -149,13 +146,17 @@ fn is_of_fp_alone(context: &CONTEXT_ARM) -> bool {
         .all(|(name, value)| value == if name == "fp" { 7 } else { 0 })
 }
 
+// The value of a register of a context all of whose registers are valid.
+fn value_of(context: &CONTEXT_ARM, name: &str) -> Option<u32> {
+    context.get_register(name, &MinidumpContextValidity::All)
+}
+
 fn changes_one() -> bool {
     let mut context = arm();
-    let all = MinidumpContextValidity::All;
     context.set_register("r11", 7) == Some(())
         && is_of_fp_alone(&context)
-        && context.get_register("r11", &all) == Some(7)
-        && context.get_register("fp", &all) == Some(7)
+        && value_of(&context, "r11") == Some(7)
+        && value_of(&context, "fp") == Some(7)
         && context.set_register("foo", 7).is_none()
         && is_of_fp_alone(&context)
 }

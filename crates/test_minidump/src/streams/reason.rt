@@ -2,9 +2,7 @@ mod names;
 mod reasons;
 mod texts;
 
-use minidump_bytes::Told;
-use minidump_format::Error;
-use minidump_reason::{CodeFamily, CodeNames, CrashReason};
+use minidump::{CodeFamily, CodeNames, CrashReason, Error, Told};
 use std::alloc::Global;
 
 type Lists = &'static [(CodeFamily, &'static [(u32, &'static str)])];

@@ -1,7 +1,5 @@
-use crate::files::read_in;
-use minidump_bytes::{Endian, Steps};
-use minidump_format::Error;
-use minidump_stability::{ProcessState, StabilityReport, SystemMemoryState};
+use crate::streams::files::read_in;
+use minidump::{Endian, Error, ProcessState, StabilityReport, Steps, SystemMemoryState};
 use std::alloc::Global;
 
 // The report that a stream of these bytes holds.

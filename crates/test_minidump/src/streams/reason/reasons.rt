@@ -1,9 +1,9 @@
 use super::{Lists, has_text};
-use minidump_format::format::{
+use minidump::format::{
     MINIDUMP_EXCEPTION, MINIDUMP_EXCEPTION_STREAM, MINIDUMP_LOCATION_DESCRIPTOR,
 };
-use minidump_reason::{CodeFamily, CodeNames, CrashReason};
-use minidump_system::{Cpu, Os};
+use minidump::system_info::{Cpu, Os};
+use minidump::{CodeFamily, CodeNames, CrashReason};
 use std::alloc::Global;
 
 // An exception with `count` parameters, and the first three of them.

@@ -2,8 +2,7 @@ mod information;
 mod map_lines;
 mod regions;
 
-use minidump_bytes::Endian;
-use minidump_memory::{MinidumpMemory, MinidumpMemory64};
+use minidump::{Endian, MinidumpMemory, MinidumpMemory64};
 use minidump_synth::zeroed;
 
 // A region made by hand, whose descriptor names no bytes of a file.

@@ -1,9 +1,8 @@
 use super::{region, region_64};
-use minidump_bytes::{Endian, FixedRead, Told};
-use minidump_format::Error;
-use minidump_format::format::{MINIDUMP_LOCATION_DESCRIPTOR, MINIDUMP_MEMORY_DESCRIPTOR};
-use minidump_memory::{
-    MinidumpMemory, MinidumpMemory64List, MinidumpMemoryList, UnifiedMemory, UnifiedMemoryList,
+use minidump::format::{MINIDUMP_LOCATION_DESCRIPTOR, MINIDUMP_MEMORY_DESCRIPTOR};
+use minidump::{
+    Endian, Error, FixedRead, MinidumpMemory, MinidumpMemory64List, MinidumpMemoryList, Told,
+    UnifiedMemory, UnifiedMemoryList,
 };
 use std::alloc::Global;
 

@@ -1,10 +1,7 @@
-use crate::files::read_in;
+use crate::streams::files::read_in;
 use bitflags::Flags;
-use minidump_bytes::{Endian, Steps};
-use minidump_format::Error;
-use minidump_format::format::MINIDUMP_MEMORY_INFO;
-use minidump_index::Region;
-use minidump_memory::{MinidumpMemoryInfo, MinidumpMemoryInfoList};
+use minidump::format::MINIDUMP_MEMORY_INFO;
+use minidump::{Endian, Error, MinidumpMemoryInfo, MinidumpMemoryInfoList, Region, Steps};
 use minidump_synth::{Section, zeroed};
 use std::alloc::Global;
 
@@ -23,7 +20,7 @@ const ACCESS: &[(u32, u32, (bool, bool, bool))] = &[
 ];
 
 // The record of a region of a protection, which ends beyond the last address.
-fn record(protection: u32) -> MINIDUMP_MEMORY_INFO {
+fn raw_info(protection: u32) -> MINIDUMP_MEMORY_INFO {
     MINIDUMP_MEMORY_INFO {
         base_address: 0xa902_06ca_83eb_2852,
         region_size: 0xf80e_064a_93eb_2356,
@@ -36,7 +33,7 @@ fn record(protection: u32) -> MINIDUMP_MEMORY_INFO {
 fn is_allowed(info: &MinidumpMemoryInfo<'_>, row: &(u32, u32, (bool, bool, bool))) -> bool {
     let (protection, bits, access) = *row;
     (info.is_readable(), info.is_writable(), info.is_executable()) == access
-        && info.raw == record(protection)
+        && info.raw == raw_info(protection)
         && info.protection.bits() == bits
         && Region::memory_range(info).is_none()
 }
@@ -44,7 +41,7 @@ fn is_allowed(info: &MinidumpMemoryInfo<'_>, row: &(u32, u32, (bool, bool, bool)
 // The same of the one region of a stream.
 fn allows(alloc: Global, row: &(u32, u32, (bool, bool, bool))) -> Result<bool, Error> {
     let bytes = Section::new(alloc, Endian::Big)
-        .extended_list(12, &[record(row.0)])
+        .extended_list(12, &[raw_info(row.0)])
         .finish()?;
     let list: MinidumpMemoryInfoList = read_in(alloc, &bytes, &[], Endian::Big, &mut Steps::new())?;
     Ok(list.iter().next().is_some_and(|info| is_allowed(info, row)))

@@ -1,13 +1,11 @@
-use crate::files::system;
-use minidump_bytes::Endian;
-use minidump_format::Error;
-use minidump_format::format::MINIDUMP_MODULE;
-use minidump_modules::{CodeId, DebugId, MinidumpModule, Module};
+use crate::streams::files::system;
+use minidump::format::MINIDUMP_MODULE;
+use minidump::{CodeId, DebugId, Endian, Error, MinidumpModule, Module};
 use minidump_synth::{SynthMinidump, zeroed};
 use std::alloc::{AllocError, Global};
 
 // The record of a module with a CodeView record, which is put into a dump.
-fn record(dump: &mut SynthMinidump, view: &[u8]) -> MINIDUMP_MODULE {
+fn raw_module(dump: &mut SynthMinidump, view: &[u8]) -> MINIDUMP_MODULE {
     MINIDUMP_MODULE {
         base_of_image: 0x1000,
         size_of_image: 0x4000,
@@ -35,7 +33,7 @@ fn read(
 // The same of a module with a CodeView record.
 fn module(alloc: Global, platform: Option<u32>, view: &[u8]) -> Result<MinidumpModule, Error> {
     let mut dump = SynthMinidump::new(alloc, Endian::Little);
-    let raw = record(&mut dump, view);
+    let raw = raw_module(&mut dump, view);
     read(alloc, platform, raw, &dump.finish()?)
 }
 

@@ -1,7 +1,5 @@
 use bitflags::Flags;
-use minidump_format::Error;
-use minidump_index::Region;
-use minidump_memory::{MMapPath, MinidumpLinuxMapInfo};
+use minidump::{Error, MMapPath, MinidumpLinuxMapInfo, Region};
 use std::alloc::Global;
 
 // The region of a line, if it is one.

@@ -1,6 +1,4 @@
-use minidump_bytes::{Endian, Source, Steps};
-use minidump_format::Error;
-use minidump_system::{MinidumpStream, MinidumpSystemInfo};
+use minidump::{Endian, Error, MinidumpStream, MinidumpSystemInfo, Source, Steps};
 use std::alloc::Global;
 
 // Reads the stream of some bytes, in a file.

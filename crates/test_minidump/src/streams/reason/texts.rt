@@ -1,5 +1,5 @@
 use super::{Lists, has_text};
-use minidump_reason::{CodeFamily, CodeNames, CrashReason};
+use minidump::{CodeFamily, CodeNames, CrashReason};
 use std::alloc::Global;
 
 #[rattlefmt::skip]

@@ -1,5 +1,5 @@
 use super::Lists;
-use minidump_reason::{CodeFamily, CodeNames, CodeNamesError};
+use minidump::{CodeFamily, CodeNames, CodeNamesError};
 
 const TWICE: Lists = &[
     (CodeFamily::Mac, &[(1, "a"), (2, "b")]),
