@@ -3,3 +3,4 @@ pub mod NameLemmas
 pub mod PathLemmas
 pub mod WantedLemmas
 pub mod BacktraceLemmas
+pub mod ShownLemmas

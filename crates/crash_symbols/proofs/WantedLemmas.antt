@@ -1,27 +1,17 @@
 -- Marks of modules, and the wanted ones of the modules so far.
-use Rattle.std.proofs.Common.{◌≡◌, ◌∙◌, ℕ, ◌+◌, ◌<◌, ◌≤◌, ◌++◌, ◌∷◌, ◌||◌, [], Bool, List, Option, add-zero, add-one, ap, arith, cond, false, filter, get_or}
-use Rattle.std.proofs.Common.{length, map, refl, suc, sym, take, true, zero}
+use Rattle.std.proofs.Common.{◌≡◌, ◌∙◌, ℕ, ◌+◌, ◌<◌, ◌≤◌, ◌++◌, ◌∷◌, ◌||◌, [], Bool, List, ap, arith, cond, false, filter, get_or}
+use Rattle.std.proofs.Common.{length, map, refl, sym, take, true}
 use Rattle.std.specs.List.{list_any, range_with_len}
 use Rattle.std.proofs.Math.Bool.{or-false}
-use Rattle.std.proofs.lemmas.List.{map_more, take_all}
-use Rattle.std.proofs.lemmas.List.Elements.{filter-append}
+use Rattle.std.proofs.lemmas.List.{map-id, map_more, take_all}
 use Rattle.std.proofs.lemmas.List.Folds.{list_any-append}
-
-range_next : (a n : ℕ) → range_with_len a (suc n) ≡ range_with_len a n ++ ((a + n) ∷ [])
-range_next a zero = rw add-zero refl
-range_next a (suc n) =
-    let next : a + 1 + n ≡ a + suc n = omega arith in
-    ap (λ l. a ∷ l) (range_next (a + 1) n ∙ ap (λ k. range_with_len (a + 1) n ++ (k ∷ [])) next)
-
--- one number more
-pub range_more : (a n : ℕ) → range_with_len a (n + 1) ≡ range_with_len a n ++ ((a + n) ∷ [])
-range_more a n = rw add-one (range_next a n)
+use Rattle.std.proofs.lemmas.List.FromFn.{filter_of_map_range_with_len_more}
 
 -- the numbers so far that pass a test, with one more
-pub kept_more : (test : ℕ → Bool) (n : ℕ) → filter test (range_with_len 0 (n + 1)) ≡ filter test (range_with_len 0 n) ++ cond (test n) (n ∷ []) []
+kept_more : (test : ℕ → Bool) (n : ℕ) → filter test (range_with_len 0 (n + 1)) ≡ filter test (range_with_len 0 n) ++ cond (test n) (n ∷ []) []
 kept_more test n =
-    let next : 0 + n ≡ n = omega arith in
-    ap (filter test) (range_more 0 n ∙ ap (λ k. range_with_len 0 n ++ (k ∷ [])) next) ∙ filter-append test (range_with_len 0 n) (n ∷ [])
+    ap (filter test) (sym (map-id (range_with_len 0 (n + 1)))) ∙ filter_of_map_range_with_len_more test (λ k. k) 0 n n (omega arith)
+    ∙ ap (λ l. filter test l ++ cond (test n) (n ∷ []) []) (map-id (range_with_len 0 n))
 
 -- the same where a list of marks has the test
 pub kept_next : (test : ℕ → Bool) (n : ℕ) (passes : Bool) (before after : List ℕ) → test n ≡ passes → after ≡ before ++ cond passes (n ∷ []) []

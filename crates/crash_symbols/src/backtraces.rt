@@ -1,5 +1,4 @@
-ghost use Rattle.std.specs.Prelude.{◌≡◌, IfOk, IsOkUnless, length, map};
-ghost use Rattle.std.specs.List.{range_with_len};
+ghost use Rattle.std.specs.Prelude.{◌≡◌, IfOk, map};
 ghost use Rattle.std.specs.Option.{option_map};
 ghost use Rattle.stack_walk.specs.Frames.{stack_of};
 ghost use Rattle.crash.specs.Crash.{crash_of};
@@ -14,7 +13,7 @@ ghost use Rattle.crash_symbols.specs.Symbols.{known_of};
 use crate::names::named_in;
 use crate::{NamedFrame, Symbols};
 use crash::{Crash, frame_in};
-use minidump::{Error, MinidumpContext};
+use minidump::MinidumpContext;
 use stack_walk::{Stack, StackFrame};
 use std::alloc::{AllocError, Global};
 use symbol_walk::{KnownFrame, SymbolWalk, SymbolWalkEnd, walk_by_symbols};
@@ -48,40 +47,24 @@ pub struct Symbolized<'s, 'l> {
 
 impl<'l> Backtraces<'l> {
     /// Finds the backtraces of all threads of a crash by symbols, with at most `scan` candidates
-    /// each. The only error is `OutOfMemory`.
+    /// each.
+    ///
+    /// Returns `AllocError` if an allocation fails.
     pub fn find(
         alloc: Global,
         crash: &Crash<'_>,
         symbols: &Symbols<'l>,
         scan: usize,
-    ) -> Result<Backtraces<'l>, Error>
-        ensures backtraces { IfOk result (λ b. backtraces_of b
+    ) -> Result<Backtraces<'l>, AllocError>
+        ensures { IfOk result (λ b. backtraces_of b
             ≡ backtraces_in (crash_of crash.now) (known_of symbols.now) scan) }
-        ensures memory { IsOkUnless result Error.OutOfMemory }
     {
-        let threads = first_backtraces(alloc, crash, symbols, scan, crash.threads.threads.len())?;
+        let mut threads = Vec::new(alloc);
+        for thread in 0..crash.threads.threads.len() {
+            threads.push(backtrace_in(alloc, crash, symbols, scan, thread)?)?;
+        }
         Ok(Backtraces { threads })
     }
-}
-
-// Returns the backtraces of so many threads.
-fn first_backtraces<'l>(
-    alloc: Global,
-    crash: &Crash<'_>,
-    symbols: &Symbols<'l>,
-    scan: usize,
-    count: usize,
-) -> Result<Vec<Option<Backtrace<'l>>>, Error>
-    ensures backtraces { IfOk result (λ bs. map (option_map backtrace_of) bs.items
-        ≡ map (backtrace_in (crash_of crash.now) (known_of symbols.now) scan)
-        (range_with_len 0 count)) }
-    ensures memory { IsOkUnless result Error.OutOfMemory }
-{
-    let mut backtraces = Vec::new(alloc);
-    for thread in 0..count {
-        backtraces.push(backtrace_in(alloc, crash, symbols, scan, thread)?)?;
-    }
-    Ok(backtraces)
 }
 
 // Returns the backtrace of the thread of an index, or `None` if it has no walk.
@@ -91,10 +74,9 @@ fn backtrace_in<'l>(
     symbols: &Symbols<'l>,
     scan: usize,
     thread: usize,
-) -> Result<Option<Backtrace<'l>>, Error>
-    ensures backtrace { IfOk result (λ b. option_map backtrace_of b
+) -> Result<Option<Backtrace<'l>>, AllocError>
+    ensures { IfOk result (λ b. option_map backtrace_of b
         ≡ backtrace_in (crash_of crash.now) (known_of symbols.now) scan thread) }
-    ensures memory { IsOkUnless result Error.OutOfMemory }
 {
     match crash.walked(thread) {
         Some((stack, context)) => {
@@ -111,13 +93,14 @@ fn backtrace_on<'l>(
     context: &MinidumpContext,
     symbols: &Symbols<'l>,
     scan: usize,
-) -> Result<Backtrace<'l>, Error>
-    ensures backtrace { IfOk result (λ b. backtrace_of b
+) -> Result<Backtrace<'l>, AllocError>
+    ensures { IfOk result (λ b. backtrace_of b
         ≡ backtrace_on (known_of symbols.now) scan (stack_of stack.now, context.now)) }
-    ensures memory { IsOkUnless result Error.OutOfMemory }
 {
-    let walk = walk_by_symbols(alloc, stack, context, symbols.files.as_slice(), scan)?;
-    Ok(backtrace_by(alloc, stack, symbols, &walk)?)
+    match walk_by_symbols(alloc, stack, context, symbols.files.as_slice(), scan) {
+        Ok(walk) => backtrace_by(alloc, stack, symbols, &walk),
+        Err(_) => Err(AllocError),
+    }
 }
 
 // Returns a walk with the module and the names of each frame.

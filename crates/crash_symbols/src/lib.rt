@@ -23,7 +23,7 @@
 //!
 //! # Errors
 //!
-//! `OutOfMemory` alone. What a symbol file lacks is `None` in its place.
+//! `AllocError` alone. What a symbol file lacks is `None` in its place.
 //!
 //! # What is proved
 //!

@@ -1,4 +1,4 @@
-ghost use Rattle.std.specs.Prelude.{◌≡◌, [], IfOk, map};
+ghost use Rattle.std.specs.Prelude.{◌≡◌, [], IfOk, map, take};
 ghost use Rattle.std.specs.Option.{option_copied, option_map};
 ghost use Rattle.crash.specs.Frames.{crash_walk_of};
 ghost use Rattle.crash.specs.Threads.{thread_value};
@@ -40,6 +40,7 @@ impl<'s, 'l> ShownWalk<'s, 'l> {
     /// Returns the first frames, with the candidates after them, at most `limit` in all.
     ///
     /// Returns `AllocError` if an allocation fails.
+    #[tactic(auto, using(crate::proofs::ShownLemmas::first_values))]
     pub fn first_frames(
         &self,
         alloc: Global,
@@ -48,11 +49,21 @@ impl<'s, 'l> ShownWalk<'s, 'l> {
         ensures { IfOk result (λ frames. map shown_frame_of frames.items
             ≡ first_frames limit (shown_of self.now)) }
     {
-        let mut frames = Vec::new(alloc);
-        frames.extend_from_slice(self.frames.as_slice())?;
-        frames.extend_from_slice(self.candidates.as_slice())?;
-        frames.truncate(limit);
+        let rest = limit.saturating_sub(self.frames.len());
+        let mut frames = Vec::from_slice(alloc, first_of(self.frames.as_slice(), limit))?;
+        frames.extend_from_slice(first_of(self.candidates.as_slice(), rest))?;
         Ok(frames)
+    }
+}
+
+// Returns the first of frames, at most so many.
+fn first_of<'f, 's, 'l>(frames: &'f [ShownFrame<'s, 'l>], count: usize) -> &'f [ShownFrame<'s, 'l>]
+    ensures { result.now ≡ take count frames.now }
+{
+    if count < frames.len() {
+        &frames[..count]
+    } else {
+        frames
     }
 }
 
