@@ -3,11 +3,10 @@ use Rattle.std.specs.Prelude.{List, map}
 use Rattle.std.specs.Option.{option_map}
 use Rattle.minidump_bytes.specs.LinuxOsStr.{text_of}
 use Rattle.crash_symbols.specs.declared.names.FrameFunction.{FrameFunction}
-use Rattle.crash_symbols.specs.declared.names.FrameNames.{FrameNames}
 use Rattle.crash_symbols.specs.declared.names.InlinedCall.{InlinedCall}
 use Rattle.crash_symbols.specs.declared.names.NamedFrame.{NamedFrame}
 use Rattle.crash_symbols.specs.declared.names.SourceLine.{SourceLine}
-use Rattle.crash_symbols.specs.Names.{CallValue, FunctionName, NamedFrameValue, NamesValue, SourceValue}
+use Rattle.crash_symbols.specs.Names.{CallValue, FunctionName, NamedFrameValue, SourceValue}
 
 abbrev pub function_of : FrameFunction → FunctionName
 function_of f = record { name = text_of f.name; offset = f.offset }
@@ -17,13 +16,6 @@ source_of s = record { file = option_map text_of s.file; line = s.line }
 
 abbrev pub call_of : InlinedCall → CallValue
 call_of c = record { function = option_map text_of c.function; source = option_map source_of c.source }
-
-abbrev pub names_value : FrameNames → NamesValue
-names_value n = record {
-  function = option_map function_of n.function;
-  line = option_map source_of n.line;
-  inlines = map call_of n.inlines.items;
-}
 
 abbrev pub named_of : NamedFrame → NamedFrameValue
 named_of f = record {

@@ -2,11 +2,10 @@ ghost use Rattle.std.specs.Prelude.{◌≡◌, IfOk, map, reverse};
 ghost use Rattle.std.specs.Option.{option_map};
 ghost use Rattle.breakpad_symbols.specs.Function.{function_of};
 ghost use Rattle.breakpad_symbols.specs.SymbolFile.{symbols_of};
-ghost use Rattle.crash_symbols.specs.NameParts.{call_of, function_of as name_value, named_of};
-ghost use Rattle.crash_symbols.specs.NameParts.{names_value, source_of};
+ghost use Rattle.crash_symbols.specs.NameParts.{call_of, function_of as name_value, named_of, source_of};
 ghost use Rattle.crash_symbols.specs.Names.{by_depth, calls_in, function_at, inlines_by, line_around, line_at};
-ghost use Rattle.crash_symbols.specs.Names.{name_at, named_in, names_at, names_in, names_of, no_names};
-ghost use Rattle.crash_symbols.specs.Names.{source_in};
+ghost use Rattle.crash_symbols.specs.Names.{name_at, named_in, names_at, names_in, no_names};
+ghost use Rattle.crash_symbols.specs.Names.{source_in, with_names};
 ghost use Rattle.crash_symbols.specs.Symbols.{known_of};
 
 use crate::Symbols;
@@ -61,14 +60,6 @@ pub struct InlinedCall<'l> {
     pub source: Option<SourceLine<'l>>,
 }
 
-// What a symbol file says of a frame.
-#[derive(Drop)]
-pub(crate) struct FrameNames<'l> {
-    function: Option<FrameFunction<'l>>,
-    line: Option<SourceLine<'l>>,
-    inlines: Vec<InlinedCall<'l>>,
-}
-
 // Returns a frame with what the symbol file of its module says of it.
 pub(crate) fn named_in<'l>(
     alloc: Global,
@@ -77,58 +68,41 @@ pub(crate) fn named_in<'l>(
 ) -> Result<NamedFrame<'l>, AllocError>
     ensures { IfOk result (λ f. named_of f ≡ named_in (known_of symbols.now).files frame) }
 {
-    let FrameNames {
-        function,
-        line,
-        inlines,
-    } = names_of(alloc, symbols, &frame)?;
-    Ok(NamedFrame {
-        frame,
-        function,
-        line,
-        inlines,
-    })
-}
-
-// Returns what the symbol file of a frame's module says of it.
-fn names_of<'l>(
-    alloc: Global,
-    symbols: &Symbols<'l>,
-    frame: &CrashFrame,
-) -> Result<FrameNames<'l>, AllocError>
-    ensures { IfOk result (λ n. names_value n ≡ names_of (known_of symbols.now).files frame.now) }
-{
     let Some((index, offset)) = frame.module else {
-        return Ok(no_names(alloc));
+        return Ok(unnamed(alloc, frame));
     };
     match symbols.file(index) {
-        Some(file) => names_at(alloc, file, offset),
-        None => Ok(no_names(alloc)),
+        Some(file) => named_at(alloc, file, frame, offset),
+        None => Ok(unnamed(alloc, frame)),
     }
 }
 
-// Returns no names.
-fn no_names<'l>(alloc: Global) -> FrameNames<'l>
-    ensures { names_value result ≡ no_names }
+// Returns a frame without names.
+fn unnamed<'l>(alloc: Global, frame: CrashFrame) -> NamedFrame<'l>
+    ensures { named_of result ≡ with_names frame no_names }
 {
-    FrameNames {
+    NamedFrame {
+        frame,
         function: None,
         line: None,
         inlines: Vec::new(alloc),
     }
 }
 
-// Returns what a symbol file says of an offset.
-fn names_at<'l>(
+// Returns a frame with what a symbol file says of an offset.
+fn named_at<'l>(
     alloc: Global,
     file: &'l SymbolFile<'l>,
+    frame: CrashFrame,
     offset: u64,
-) -> Result<FrameNames<'l>, AllocError>
-    ensures { IfOk result (λ n. names_value n ≡ names_at (symbols_of file.now) offset) }
+) -> Result<NamedFrame<'l>, AllocError>
+    ensures { IfOk result (λ f. named_of f
+        ≡ with_names frame (names_at (symbols_of file.now) offset)) }
 {
     match function_at(file, offset) {
-        Some(function) => names_in(alloc, file, function, offset),
-        None => Ok(FrameNames {
+        Some(function) => named_by(alloc, file, function, frame, offset),
+        None => Ok(NamedFrame {
+            frame,
             function: public_name(file, offset),
             line: None,
             inlines: Vec::new(alloc),
@@ -155,15 +129,16 @@ fn public_name<'l>(file: &'l SymbolFile<'l>, offset: u64) -> Option<FrameFunctio
     })
 }
 
-// Returns what a symbol file says of an offset in a function.
-fn names_in<'l>(
+// Returns a frame with what a symbol file says of an offset in a function.
+fn named_by<'l>(
     alloc: Global,
     file: &'l SymbolFile<'l>,
     function: &Function<'l>,
+    frame: CrashFrame,
     offset: u64,
-) -> Result<FrameNames<'l>, AllocError>
-    ensures { IfOk result (λ n. names_value n
-        ≡ names_in (symbols_of file.now) (function_of function.now) offset) }
+) -> Result<NamedFrame<'l>, AllocError>
+    ensures { IfOk result (λ f. named_of f
+        ≡ with_names frame (names_in (symbols_of file.now) (function_of function.now) offset)) }
 {
     let calls = calls_in(alloc, function, offset)?;
     let innermost = line_at(file, function, offset);
@@ -172,7 +147,8 @@ fn names_in<'l>(
         name: function.name,
         offset: offset.saturating_sub(function.address),
     };
-    Ok(FrameNames {
+    Ok(NamedFrame {
+        frame,
         function: Some(name),
         line,
         inlines,
