@@ -1,9 +1,9 @@
 -- Loops that find the calls put in place at an offset, and that name them.
-use Rattle.std.proofs.Common.{◌≡◌, ◌∙◌, ℕ, ◌+◌, ◌-◌, ◌<◌, ◌≤◌, ◌++◌, ◌∷◌, [], List, Option, Some, None, ap, arith, append-nil, append_assoc, map, refl, reverse}
+use Rattle.std.proofs.Common.{◌≡◌, ◌∙◌, ℕ, ◌+◌, ◌-◌, ◌<◌, ◌≤◌, ◌++◌, ◌∷◌, [], List, Option, Some, None, ap, arith, append-nil, append_assoc, refl, reverse}
 use Rattle.std.proofs.Common.{suc, sym}
 use Rattle.std.specs.List.{range_with_len}
 use Rattle.std.specs.Borrow.{Bor}
-use Rattle.std.specs.Option.{option_copied, option_map, option_map_or}
+use Rattle.std.specs.Option.{option_copied, option_map}
 use Rattle.std.proofs.lemmas.List.{reverse-append}
 use Rattle.breakpad_symbols.specs.declared.inline.InlineCall.{InlineCall}
 use Rattle.breakpad_symbols.specs.SymbolFile.{SymbolsValue, origin_name}

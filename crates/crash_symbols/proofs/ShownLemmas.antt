@@ -1,5 +1,5 @@
 -- The first of two lists, one after the other.
-use Rattle.std.proofs.Common.{◌≡◌, ◌∙◌, ◌-◌, ◌++◌, ◌∷◌, [], ℕ, List, ap, arith, length, map, suc, sym, take, zero}
+use Rattle.std.proofs.Common.{◌≡◌, ◌∙◌, ◌-◌, ◌++◌, ◌∷◌, [], ℕ, List, ap, arith, length, map, suc, take, zero}
 use Rattle.std.proofs.lemmas.List.{take-map}
 
 -- the first values are those of the first items of both lists

@@ -1,5 +1,5 @@
 -- The value of the structs that hold names.
-use Rattle.std.specs.Prelude.{List, map}
+use Rattle.std.specs.Prelude.{map}
 use Rattle.std.specs.Option.{option_map}
 use Rattle.minidump_bytes.specs.LinuxOsStr.{text_of}
 use Rattle.crash_symbols.specs.declared.names.FrameFunction.{FrameFunction}

@@ -1,6 +1,6 @@
 -- What a symbol file says of a frame: its function, its source line, and the calls that the compiler
 -- put in place there.
-use Rattle.std.specs.Prelude.{ℕ, ◌-◌, List, [], ◌∷◌, map, reverse, Option, Some, None}
+use Rattle.std.specs.Prelude.{ℕ, ◌-◌, List, [], ◌∷◌, reverse, Option, Some, None}
 use Rattle.std.specs.List.{range_with_len}
 use Rattle.std.specs.Option.{option_map, option_map_or}
 use Rattle.minidump_index.specs.Lookup.{looked_up}

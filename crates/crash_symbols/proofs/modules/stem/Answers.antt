@@ -1,5 +1,5 @@
 -- By the last dot.
-use Rattle.std.proofs.Common.{arith, sym, ◌∙◌, ap, ◌≡◌, Some, None, true, false, refl}
+use Rattle.std.proofs.Common.{arith, ◌≡◌, Some, None, true, false, refl}
 use Rattle.std.specs.Prelude.{codes}
 use Rattle.minidump_bytes.specs.LinuxOsStr.{cut_last}
 use Rattle.crash_symbols.specs.Modules.{same_letters, stem}

@@ -1,10 +1,9 @@
--- One thread more; all threads.
-use Rattle.std.proofs.Common.{◌≡◌, ◌∙◌, ◌<◌, arith, false, length}
+-- All threads.
+use Rattle.std.proofs.Common.{false}
 use Rattle.std.specs.Option.{option_map}
-use Rattle.std.proofs.lemmas.Grind.{common_steps}
 use Rattle.crash_symbols.specs.Backtraces.{backtrace_of}
 use Rattle.crash_symbols.specs.Wanted.{visits}
-use Rattle.crash_symbols.proofs.WantedLemmas.{marked_all, marked_more}
+use Rattle.crash_symbols.proofs.WantedLemmas.{marked_all}
 use Rattle.crash_symbols.proofs.wanted.visited.Goals as goal
 
 pub returns-clause-marks : goal.returns-clause-marks
