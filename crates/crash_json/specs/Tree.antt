@@ -1,6 +1,7 @@
 -- JSON values of lists of members and of items, and their tokens.
 use Rattle.std.specs.Prelude.{◌≡◌, ℕ, List, [], ◌∷◌, ◌++◌, map, Option, Some, None, OnOk}
-use Rattle.std.specs.Prelude.{IsOkUnless, Result, decimal, string_bytes}
+use Rattle.std.specs.Prelude.{Result, decimal, string_bytes}
+use Rattle.std.specs.declared.alloc.AllocError.{AllocError}
 use Rattle.std.specs.Borrow.{Bor}
 use Rattle.std.specs.List.{enumerate_from, flat_map}
 use Rattle.std.specs.Option.{option_copied, option_map}
@@ -10,8 +11,6 @@ use Rattle.json.specs.Token.{Token}
 use Rattle.json.specs.Tree.{json_tokens}
 use Rattle.json.specs.Written.{Written}
 use Rattle.minidump_bytes.specs.Piece.{hex}
-use Rattle.minidump_format.specs.declared.error.Error.{Error}
-use Rattle.minidump_format.specs.declared.error.Error.TheVariants.{OutOfMemory}
 use Rattle.crash_json.specs.declared.tree.Scalar.{Scalar}
 use Rattle.crash_json.specs.declared.tree.Scalar.TheVariants.{Null, Text, Owned, Optional, Number, Count, Hex, Flag}
 
@@ -86,14 +85,12 @@ unfoldable pub member_list_tokens : List (List ℕ × Json) → List Token
 member_list_tokens ms = flat_map member_tokens ms
 
 -- the tokens of a value come after those that were there; or memory ran out
-pub record Puts (r : Result (Unit {0}) Error) (old new : Written) (j : Json) : Type 0 where
+pub record Puts (r : Result (Unit {0}) AllocError) (old new : Written) (j : Json) : Type 0 where
   pub tokens : OnOk r (new.tokens ≡ old.tokens ++ json_tokens j)
   pub before : new.before ≡ old.before
-  pub memory : IsOkUnless r OutOfMemory
 
 -- the tokens of members come after those that were there; or memory ran out
-pub record Adds (r : Result (Unit {0}) Error) (old new : Written)
+pub record Adds (r : Result (Unit {0}) AllocError) (old new : Written)
     (ms : List (List ℕ × Json)) : Type 0 where
   pub tokens : OnOk r (new.tokens ≡ old.tokens ++ member_list_tokens ms)
   pub before : new.before ≡ old.before
-  pub memory : IsOkUnless r OutOfMemory

@@ -1,5 +1,5 @@
 //! Where and why a process crashed: the crash, the exceptions, and the address.
-ghost use Rattle.std.specs.Prelude.{◌≡◌, IfOk, IsOkUnless, string_bytes};
+ghost use Rattle.std.specs.Prelude.{◌≡◌, IfOk, string_bytes};
 ghost use Rattle.std.specs.Option.{option_and_then, option_copied, option_map};
 ghost use Rattle.minidump.specs.Below.Contexts.Context.{map_ok};
 ghost use Rattle.minidump.specs.Promise.{assertion_stream};
@@ -17,8 +17,9 @@ use crash::{
     RegionState, Sender,
 };
 use json::Writer;
+use minidump::own_streams::text_before_nul;
 use minidump::{Error, MinidumpAssertion};
-use std::alloc::Global;
+use std::alloc::{AllocError, Global};
 
 /// Puts the crash, by the exception that counts.
 pub(crate) fn put_crash_info(out: &mut Writer, alloc: Global, crash: &Crash<'_>) -> Put
@@ -54,13 +55,12 @@ fn address_of(cause: &CrashCause) -> Option<u64>
 fn expression_of(
     alloc: Global,
     assertion: &Result<MinidumpAssertion, Error>,
-) -> Result<Option<String>, Error>
-    ensures value { IfOk result (λ text. option_map string_bytes text
+) -> Result<Option<String>, AllocError>
+    ensures { IfOk result (λ text. option_map string_bytes text
         ≡ expression_in (map_ok assertion_stream.value assertion.now)) }
-    ensures memory { IsOkUnless result Error.OutOfMemory }
 {
     match assertion {
-        Ok(assertion) => assertion.expression(alloc),
+        Ok(assertion) => text_before_nul(alloc, &assertion.raw.expression),
         Err(_) => Ok(None),
     }
 }

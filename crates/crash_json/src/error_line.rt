@@ -1,21 +1,20 @@
-ghost use Rattle.std.specs.Prelude.{◌≡◌, IfOk, IsOkUnless, Some};
+ghost use Rattle.std.specs.Prelude.{◌≡◌, IfOk, Some};
 ghost use Rattle.std.specs.Str.{IsUtf8};
 ghost use Rattle.json.specs.Json.{document};
 ghost use Rattle.crash_json.specs.Report.{error_json, error_text};
 
 use crate::tree::{Members, Put, Scalar, ToJson, text_of};
 use json::Writer;
-use minidump::Error;
-use std::alloc::Global;
+use std::alloc::{AllocError, Global};
 
-/// Makes the line of a file that is no minidump: its path, and a word for why. The only error is
-/// `OutOfMemory`.
-pub fn error_json(alloc: Global, path: &str, status: &str) -> Result<Vec<u8>, Error>
+/// Makes the line of a file that is no minidump: its path, and a word for why.
+///
+/// Returns `AllocError` if an allocation fails.
+pub fn error_json(alloc: Global, path: &str, status: &str) -> Result<Vec<u8>, AllocError>
     ensures text { IfOk result
         (λ text. document text.items ≡ Some (error_json path.now status.now)) }
     ensures compact { IfOk result (λ text. text.items ≡ error_text path.now status.now) }
     ensures utf8 { IfOk result (λ text. IsUtf8 text.items) }
-    ensures memory { IsOkUnless result Error.OutOfMemory }
 {
     text_of(alloc, &FileError { path, status })
 }

@@ -151,10 +151,9 @@ fn put_registers_or_null(out: &mut Writer, alloc: Global, context: Option<&Crash
     ensures { Puts result out.old out.new (or_null registers_json (context_in context.entry)) }
 {
     match context {
-        Some(context) => put_named(out, alloc, context.registers.as_slice())?,
-        None => out.null()?,
+        Some(context) => put_named(out, alloc, context.registers.as_slice()),
+        None => out.null(),
     }
-    Ok(())
 }
 
 /// Puts registers or flags, each by its name.

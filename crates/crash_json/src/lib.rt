@@ -123,8 +123,5 @@ pub fn json_of<'l>(
         limits: *limits,
         symbols,
     };
-    match text_of(alloc, &report) {
-        Ok(text) => Ok(text),
-        Err(_) => Err(AllocError),
-    }
+    text_of(alloc, &report)
 }

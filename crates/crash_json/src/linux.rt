@@ -29,11 +29,10 @@ pub(crate) fn put_proc_limits(
     match found {
         Ok(found) => {
             let limits = limits_of(alloc, found)?;
-            Members(&[("limits", Limits(limits.as_slice()))]).put(out, alloc)?;
+            Members(&[("limits", Limits(limits.as_slice()))]).put(out, alloc)
         }
-        Err(_) => out.null()?,
+        Err(_) => out.null(),
     }
-    Ok(())
 }
 
 // The list of limits.
@@ -87,11 +86,10 @@ pub(crate) fn put_environment(
     match found {
         Ok(found) if is_asked => {
             let variables = variables_of(alloc, found)?;
-            put_variables(out, alloc, variables.as_slice())?;
+            put_variables(out, alloc, variables.as_slice())
         }
-        _ => out.null()?,
+        _ => out.null(),
     }
-    Ok(())
 }
 
 #[tactic(auto, using(crate::proofs::Tokens::views))]

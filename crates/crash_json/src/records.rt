@@ -8,6 +8,7 @@ ghost use Rattle.crash_json.specs.Records.{assertion_kind, assertion_object};
 use crate::tree::{Members, Put, Scalar, ToJson, put_array};
 use crash::HandleKind;
 use json::Writer;
+use minidump::own_streams::text_before_nul;
 use minidump::{
     MinidumpAssertion, MinidumpHandleDataStream, MinidumpHandleDescriptor, MinidumpMacCrashInfo,
     RawMacCrashInfo,
@@ -134,9 +135,9 @@ impl ToJson for MinidumpAssertion {
     ghost json = { λ a. assertion_json (assertion_stream.value a) };
 
     fn put(&self, out: &mut Writer, alloc: Global) -> Put {
-        let expression = self.expression(alloc)?;
-        let function = self.function(alloc)?;
-        let file = self.file(alloc)?;
+        let expression = text_before_nul(alloc, &self.raw.expression)?;
+        let function = text_before_nul(alloc, &self.raw.function)?;
+        let file = text_before_nul(alloc, &self.raw.file)?;
         put_assertion(
             out,
             alloc,

@@ -1,5 +1,5 @@
 //! Mozilla's soft errors.
-ghost use Rattle.std.specs.Prelude.{◌≡◌, IfOk, IfSome, IsOkUnless};
+ghost use Rattle.std.specs.Prelude.{◌≡◌, IfOk, IfSome};
 ghost use Rattle.std.specs.Option.{option_copied, option_map};
 ghost use Rattle.json.specs.Tree.{HasNumbers};
 ghost use Rattle.json.specs.Value.{value_view};
@@ -8,8 +8,7 @@ ghost use Rattle.crash_json.specs.SoftErrors.{soft_json, value_in};
 
 use crate::tree::Put;
 use json::{Reader, Scratch, Value, Writer};
-use minidump::Error;
-use std::alloc::Global;
+use std::alloc::{AllocError, Global};
 
 /// Puts the value of soft errors, or `null`.
 pub(crate) fn put_soft_errors(out: &mut Writer, alloc: Global, text: Option<&str>) -> Put
@@ -17,7 +16,7 @@ pub(crate) fn put_soft_errors(out: &mut Writer, alloc: Global, text: Option<&str
 {
     match text {
         Some(text) => put_soft(out, alloc, text),
-        None => Ok(out.null()?),
+        None => out.null(),
     }
 }
 
@@ -28,10 +27,9 @@ fn put_soft(out: &mut Writer, alloc: Global, text: &str) -> Put
 {
     let mut scratch = Scratch::new(alloc);
     match value_in(alloc, text, &mut scratch)? {
-        Some(value) => out.value(&value)?,
-        None => out.string(text)?,
+        Some(value) => out.value(&value),
+        None => out.string(text),
     }
-    Ok(())
 }
 
 // Returns the value of a text that is JSON and nests at most 127 deep, or `None`.
@@ -39,16 +37,15 @@ fn value_in<'a>(
     alloc: Global,
     text: &'a str,
     scratch: &'a mut Scratch,
-) -> Result<Option<Value<'a>>, Error>
+) -> Result<Option<Value<'a>>, AllocError>
     ensures value { IfOk result (λ found. option_map value_view found ≡ value_in text.now) }
     ensures writable { IfOk result (λ found. IfSome found (λ v. HasNumbers (value_view v))) }
-    ensures memory { IsOkUnless result Error.OutOfMemory }
 {
     let mut reader = Reader::new(text, scratch)?;
     let value = match Value::read(alloc, &mut reader, 127) {
         Ok(value) => value,
         Err(json::Error::Invalid) => return Ok(None),
-        Err(_) => return Err(Error::OutOfMemory),
+        Err(_) => return Err(AllocError),
     };
     match reader.next() {
         None => Ok(Some(value)),

@@ -17,7 +17,9 @@ impl ToJson for CrashSystem {
     ghost json = { λ s. system_json (system_of s) };
 
     fn put(&self, out: &mut Writer, alloc: Global) -> Put {
-        let os = self.os.long_name(alloc)?;
+        let Ok(os) = self.os.long_name(alloc) else {
+            return Err(AllocError);
+        };
         let version = with_build(alloc, self)?;
         let cpu = self.cpu;
         let cpu = format!(in alloc; "{cpu}")?;

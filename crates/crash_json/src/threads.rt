@@ -234,10 +234,9 @@ pub(crate) fn put_crashing(out: &mut Writer, alloc: Global, report: Report<'_, '
             report,
             is_crashing,
         }
-        .put_at(n, thread, out, alloc)?,
-        None => out.null()?,
+        .put_at(n, thread, out, alloc),
+        None => out.null(),
     }
-    Ok(())
 }
 
 /// Returns the word for the context that the registers of the thread that crashed come from.

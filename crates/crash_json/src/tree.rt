@@ -3,7 +3,7 @@
 //! A type has a JSON value by [`ToJson`], and so has each item of a list; by [`NumberedJson`] an item's
 //! value has its number in it. [`Members`] are the members of an object, whose values are of one type:
 //! it puts the object, or adds them to those that were put.
-ghost use Rattle.std.specs.Prelude.{◌≡◌, ◌≤◌, ℕ, IfOk, IsOkUnless, Some, map};
+ghost use Rattle.std.specs.Prelude.{◌≡◌, ◌≤◌, ℕ, IfOk, Some, map};
 ghost use Rattle.std.specs.Prelude.{string_bytes};
 ghost use Rattle.std.specs.Option.{option_copied, option_map};
 ghost use Rattle.std.specs.Result.{result_ok};
@@ -19,8 +19,8 @@ use minidump_bytes::{Piece, format_pieces};
 use minidump_format::Error;
 use std::alloc::{AllocError, Global};
 
-/// What a call that puts JSON returns.
-pub(crate) type Put = Result<(), Error>;
+/// What a call that puts JSON returns: `AllocError` if an allocation fails.
+pub(crate) type Put = Result<(), AllocError>;
 
 /// A value without parts.
 #[derive(Clone, Copy)]
@@ -57,7 +57,7 @@ pub(crate) fn as_text(text: &Option<String>) -> Option<&str>
 pub(crate) trait ToJson {
     ghost json: { Self → Json };
 
-    /// Puts the value. The only error is `OutOfMemory`.
+    /// Puts the value.
     fn put(&self, out: &mut Writer, alloc: Global) -> Put
         ensures { Puts result out.old out.new (json self.now) };
 }
@@ -67,7 +67,7 @@ pub(crate) trait ToJson {
 pub(crate) struct Members<'l, 'n, T>(pub(crate) &'l [(&'n str, T)]);
 
 impl<T: ToJson> Members<'_, '_, T> {
-    /// Puts the object of the members. The only error is `OutOfMemory`.
+    /// Puts the object of the members.
     #[tactic(auto, using(crate::proofs::Tokens::object_of_members))]
     pub(crate) fn put(&self, out: &mut Writer, alloc: Global) -> Put
         ensures { Puts result out.old out.new (object_of (map (member_of T.json) self.now.0.now)) }
@@ -78,7 +78,7 @@ impl<T: ToJson> Members<'_, '_, T> {
         Ok(())
     }
 
-    /// Adds the members to those of an object. The only error is `OutOfMemory`.
+    /// Adds the members to those of an object.
     #[tactic(auto, unfolding(crate::specs::Tree::member_list_tokens))]
     pub(crate) fn add(&self, out: &mut Writer, alloc: Global) -> Put
         ensures { Adds result out.old out.new (map (member_of T.json) self.now.0.now) }
@@ -99,21 +99,20 @@ impl ToJson for Scalar<'_> {
 
     fn put(&self, out: &mut Writer, alloc: Global) -> Put {
         match *self {
-            Scalar::Text(text) => put_text(out, text)?,
-            Scalar::Owned(text) => out.string(text.as_str())?,
-            Scalar::Optional(text) => put_text(out, as_text(text))?,
-            Scalar::Number(Some(number)) => out.u64(number)?,
-            Scalar::Count(Some(number)) => out.u64(number as u64)?,
+            Scalar::Text(text) => put_text(out, text),
+            Scalar::Owned(text) => out.string(text.as_str()),
+            Scalar::Optional(text) => put_text(out, as_text(text)),
+            Scalar::Number(Some(number)) => out.u64(number),
+            Scalar::Count(Some(number)) => out.u64(number as u64),
             Scalar::Hex(Some(number)) => {
                 let text = hex_text(alloc, number)?;
-                out.string(text.as_str())?
+                out.string(text.as_str())
             }
-            Scalar::Flag(flag) => out.boolean(flag)?,
+            Scalar::Flag(flag) => out.boolean(flag),
             Scalar::Null | Scalar::Number(None) | Scalar::Count(None) | Scalar::Hex(None) => {
-                out.null()?
+                out.null()
             }
         }
-        Ok(())
     }
 }
 
@@ -122,10 +121,9 @@ fn put_text(out: &mut Writer, text: Option<&str>) -> Put
     ensures { Puts result out.old out.new (or_null string (option_copied text.entry)) }
 {
     match text {
-        Some(text) => out.string(text)?,
-        None => out.null()?,
+        Some(text) => out.string(text),
+        None => out.null(),
     }
-    Ok(())
 }
 
 // Makes the text of a number in hexadecimal.
@@ -136,14 +134,12 @@ fn hex_text(alloc: Global, number: u64) -> Result<String, AllocError>
     format_pieces(alloc, &[Piece::Hex(number)])
 }
 
-/// Makes the JSON text of a value, compact, without line feeds between its tokens. The only error
-/// is `OutOfMemory`.
-pub(crate) fn text_of<T: ToJson>(alloc: Global, value: &T) -> Result<Vec<u8>, Error>
+/// Makes the JSON text of a value, compact, without line feeds between its tokens.
+pub(crate) fn text_of<T: ToJson>(alloc: Global, value: &T) -> Result<Vec<u8>, AllocError>
     ensures text { IfOk result (λ text. text.items ≡ print (json_tokens (T.json value.now))) }
     ensures reads_back { IfOk result (λ text. depth (T.json value.now) ≤ max_depth
         → document text.items ≡ Some (T.json value.now)) }
     ensures utf8 { IfOk result (λ text. IsUtf8 text.items) }
-    ensures memory { IsOkUnless result Error.OutOfMemory }
 {
     let mut out = Writer::new(Vec::new(alloc));
     value.put(&mut out, alloc)?;
@@ -156,34 +152,32 @@ pub(crate) fn text_of<T: ToJson>(alloc: Global, value: &T) -> Result<Vec<u8>, Er
 pub(crate) trait NumberedJson<X> {
     ghost json_at: { Self → ℕ → X → Json };
 
-    /// Puts the value of an item. The only error is `OutOfMemory`.
+    /// Puts the value of an item.
     fn put_at(&self, number: usize, item: &X, out: &mut Writer, alloc: Global) -> Put
         ensures { Puts result out.old out.new (json_at self.now number item.now) };
 }
 
-/// Puts a value, or `null`. The only error is `OutOfMemory`.
+/// Puts a value, or `null`.
 pub(crate) fn put_or_null<T: ToJson>(out: &mut Writer, alloc: Global, item: &Option<T>) -> Put
     ensures { Puts result out.old out.new (or_null T.json item.now) }
 {
     match item {
-        Some(item) => item.put(out, alloc)?,
-        None => out.null()?,
+        Some(item) => item.put(out, alloc),
+        None => out.null(),
     }
-    Ok(())
 }
 
-/// Puts the value of a stream, or `null` if it can't be read. The only error is `OutOfMemory`.
+/// Puts the value of a stream, or `null` if it can't be read.
 pub(crate) fn put_found<T: ToJson>(out: &mut Writer, alloc: Global, found: &Result<T, Error>) -> Put
     ensures { Puts result out.old out.new (or_null T.json (result_ok found.now)) }
 {
     match found {
-        Ok(item) => item.put(out, alloc)?,
-        Err(_) => out.null()?,
+        Ok(item) => item.put(out, alloc),
+        Err(_) => out.null(),
     }
-    Ok(())
 }
 
-/// Puts an array of the values of items. The only error is `OutOfMemory`.
+/// Puts an array of the values of items.
 pub(crate) fn put_array<T: ToJson>(out: &mut Writer, alloc: Global, items: &[T]) -> Put
     ensures { Puts result out.old out.new (array_of T.json items.now) }
 {
@@ -195,8 +189,7 @@ pub(crate) fn put_array<T: ToJson>(out: &mut Writer, alloc: Global, items: &[T])
     Ok(())
 }
 
-/// Puts an array of the values of items, which may depend on their numbers. The only error is
-/// `OutOfMemory`.
+/// Puts an array of the values of items, which may depend on their numbers.
 pub(crate) fn put_numbered_array<X, F: NumberedJson<X>>(
     out: &mut Writer,
     alloc: Global,

@@ -9,5 +9,4 @@ returns c = record {
       (more _ _ _ _ _ c.in_ok-put_process.ensures.tokens (more _ _ _ _ _ c.in_ok-put_file.ensures.tokens c.in_ok-put_crash.ensures.tokens))
       c.in_ok-end_object.ensures.ok;
   before = search rules;
-  memory = search rules;
 }

@@ -12,5 +12,4 @@ returns g c =
       tokens = in_array json items _ _ _ _ c.in_ok-begin_array.ensures.ok
           (c.loop-x.invariant.tokens ∙ ap (λ xs. c.begin_array.new.self.tokens ++ item_tokens json xs) all) c.in_ok-end_array.ensures.ok;
       before = search rules;
-      memory = search rules;
     }

@@ -18,5 +18,4 @@ returns g c =
     record {
       tokens = in_array (λ p. json p.0 p.1) (enumerate_from 0 items) _ _ _ _ c.in_ok-begin_array.ensures.ok all c.in_ok-end_array.ensures.ok;
       before = search rules;
-      memory = search rules;
     }

@@ -8,5 +8,4 @@ returns c = record {
   tokens = in_object _ _ _ _ _ c.in_ok-begin_object.ensures.ok
       (more _ _ _ _ _ c.in_ok-put_place.ensures.tokens c.in_ok-put_names.ensures.tokens) c.in_ok-end_object.ensures.ok;
   before = search rules;
-  memory = search rules;
 }

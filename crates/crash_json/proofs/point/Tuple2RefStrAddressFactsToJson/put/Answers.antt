@@ -8,5 +8,4 @@ returns c = record {
   tokens = in_object _ _ _ _ _ c.in_ok-begin_object.ensures.ok
       (more _ _ _ _ _ c.in_ok-add.ensures.tokens c.in_ok-put_address.ensures.tokens) c.in_ok-end_object.ensures.ok;
   before = search rules;
-  memory = search rules;
 }

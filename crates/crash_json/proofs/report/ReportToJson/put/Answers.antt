@@ -17,5 +17,4 @@ returns c =
           (more _ _ _ _ _ threads c.in_ok-put_records.ensures.tokens)))
           c.in_ok-end_object.ensures.ok;
       before = search rules;
-      memory = search rules;
     }

@@ -18,5 +18,4 @@ returns c =
       tokens = in_object _ _ _ _ _ c.in_ok-begin_object.ensures.ok
           (more _ _ _ _ _ c.in_ok-put_index.ensures.tokens (more _ _ _ _ _ members frames)) c.in_ok-end_object.ensures.ok;
       before = search rules;
-      memory = search rules;
     }
