@@ -92,10 +92,7 @@ pub fn crash_json(
     let crash = Crash::read(alloc, bytes, names, scan)?;
     let text = json_of(alloc, path, &crash, limits, None);
     crash.close();
-    match text {
-        Ok(text) => Ok(text),
-        Err(_) => Err(Error::OutOfMemory),
-    }
+    Ok(text?)
 }
 
 /// Makes the JSON text of a crash. With symbols the frames of a thread are those of its backtrace,

@@ -17,7 +17,7 @@ use std::alloc::Global;
 // ---- the limits
 
 /// Puts the limits of a process, or `null` if their stream can't be read.
-#[tactic(auto, unfolding(crate::specs::Linux::limits_json))]
+#[tactic(auto, using(crate::proofs::Tokens::views), unfolding(crate::specs::Linux::limits_json))]
 pub(crate) fn put_proc_limits(
     out: &mut Writer,
     alloc: Global,
@@ -29,27 +29,9 @@ pub(crate) fn put_proc_limits(
     match found {
         Ok(found) => {
             let limits = limits_of(alloc, found)?;
-            Members(&[("limits", Limits(limits.as_slice()))]).put(out, alloc)
+            Members(&[("limits", limits.as_slice())]).put(out, alloc)
         }
         Err(_) => out.null(),
-    }
-}
-
-// The list of limits.
-#[derive(Clone, Copy)]
-struct Limits<'l>(&'l [ProcessLimit]);
-
-impl ToJson for Limits<'_> {
-    ghost use Rattle.std.specs.Prelude.{map};
-    ghost use Rattle.crash.specs.Linux.{limit_of};
-    ghost use Rattle.crash_json.specs.Tree.{array_of};
-    ghost use Rattle.crash_json.specs.Linux.{limit_json};
-
-    ghost json = { λ l. array_of limit_json (map limit_of l.0.now) };
-
-    #[tactic(auto, using(crate::proofs::Tokens::views))]
-    fn put(&self, out: &mut Writer, alloc: Global) -> Put {
-        put_array(out, alloc, self.0)
     }
 }
 

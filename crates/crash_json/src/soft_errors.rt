@@ -10,21 +10,15 @@ use crate::tree::Put;
 use json::{Reader, Scratch, Value, Writer};
 use std::alloc::{AllocError, Global};
 
-/// Puts the value of soft errors, or `null`.
+/// Puts the value of soft errors, which is that of their text if it is JSON, else the text; or
+/// `null`.
+#[tactic(auto, unfolding(crate::specs::SoftErrors::soft_json))]
 pub(crate) fn put_soft_errors(out: &mut Writer, alloc: Global, text: Option<&str>) -> Put
     ensures { Puts result out.old out.new (or_null soft_json (option_copied text.entry)) }
 {
-    match text {
-        Some(text) => put_soft(out, alloc, text),
-        None => out.null(),
-    }
-}
-
-// Puts the value of a text that is JSON, else the text.
-#[tactic(auto, unfolding(crate::specs::SoftErrors::soft_json))]
-fn put_soft(out: &mut Writer, alloc: Global, text: &str) -> Put
-    ensures { Puts result out.old out.new (soft_json text.now) }
-{
+    let Some(text) = text else {
+        return out.null();
+    };
     let mut scratch = Scratch::new(alloc);
     match value_in(alloc, text, &mut scratch)? {
         Some(value) => out.value(&value),

@@ -177,6 +177,16 @@ pub(crate) fn put_found<T: ToJson>(out: &mut Writer, alloc: Global, found: &Resu
     }
 }
 
+impl<'l, T: ToJson> ToJson for &'l [T] {
+    ghost use Rattle.crash_json.specs.Tree.{array_of};
+
+    ghost json = { λ items. array_of T.json items.now };
+
+    fn put(&self, out: &mut Writer, alloc: Global) -> Put {
+        put_array(out, alloc, *self)
+    }
+}
+
 /// Puts an array of the values of items.
 pub(crate) fn put_array<T: ToJson>(out: &mut Writer, alloc: Global, items: &[T]) -> Put
     ensures { Puts result out.old out.new (array_of T.json items.now) }
