@@ -5,10 +5,11 @@ ghost use Rattle.minidump.specs.Below.Contexts.Context.{map_ok};
 ghost use Rattle.minidump.specs.Promise.{assertion_stream};
 ghost use Rattle.crash.specs.Cause.{cause_of, counted_exception, exception_of};
 ghost use Rattle.crash.specs.Crash.{crash_of};
-ghost use Rattle.crash_json.specs.Tree.{Adds, Puts};
-ghost use Rattle.crash_json.specs.Cause.{access_name, address_members, crash_info_json};
-ghost use Rattle.crash_json.specs.Cause.{crash_object, expression_in, problem_name, read_json};
-ghost use Rattle.crash_json.specs.Cause.{state_name, unread_json};
+ghost use Rattle.crash_json.specs.Tree.{Adds, Puts, hex_string};
+ghost use Rattle.crash_json.specs.Cause.{access_name, address_json, address_members};
+ghost use Rattle.crash_json.specs.Cause.{crash_info_json, crash_object, exception_json};
+ghost use Rattle.crash_json.specs.Cause.{expression_in, memory_json, problem_name, read_json};
+ghost use Rattle.crash_json.specs.Cause.{sender_json, state_name, unread_json};
 
 use crate::frames::{index_of, offset_of};
 use crate::tree::{Members, Put, Scalar, ToJson, as_text, put_array, put_or_null};
@@ -87,10 +88,6 @@ fn put_crash<'t>(
 }
 
 impl ToJson for Result<CrashException, Error> {
-    ghost use Rattle.minidump.specs.Below.Contexts.Context.{map_ok};
-    ghost use Rattle.crash.specs.Cause.{exception_of};
-    ghost use Rattle.crash_json.specs.Cause.{exception_json};
-
     ghost json = { λ e. exception_json (map_ok exception_of e) };
 
     fn put(&self, out: &mut Writer, alloc: Global) -> Put {
@@ -152,8 +149,6 @@ impl ToJson for ExceptionMember<'_> {
 
 // A number of a list, in hexadecimal.
 impl ToJson for u64 {
-    ghost use Rattle.crash_json.specs.Tree.{hex_string};
-
     ghost json = { hex_string };
 
     fn put(&self, out: &mut Writer, alloc: Global) -> Put {
@@ -162,8 +157,6 @@ impl ToJson for u64 {
 }
 
 impl ToJson for Sender {
-    ghost use Rattle.crash_json.specs.Cause.{sender_json};
-
     ghost json = { sender_json };
 
     #[tactic(auto, unfolding(crate::specs::Cause::sender_json))]
@@ -230,8 +223,6 @@ pub(crate) fn problem_name(problem: Option<ContextProblem>) -> Option<&'static s
 }
 
 impl ToJson for AddressFacts {
-    ghost use Rattle.crash_json.specs.Cause.{address_json};
-
     ghost json = { address_json };
 
     #[tactic(auto, using(crate::proofs::Tokens::object_of_members))]
@@ -284,8 +275,6 @@ impl ToJson for AddressMember<'_> {
 }
 
 impl ToJson for AddressMemory {
-    ghost use Rattle.crash_json.specs.Cause.{memory_json};
-
     ghost json = { memory_json };
 
     #[tactic(auto, unfolding(crate::specs::Cause::memory_json))]

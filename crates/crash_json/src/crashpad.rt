@@ -1,11 +1,14 @@
 //! Crashpad's information: its identifiers and its annotations.
 ghost use Rattle.std.specs.Prelude.{◌≡◌, IfOk, map, string_bytes};
+ghost use Rattle.json.specs.Json.{string};
 ghost use Rattle.minidump.specs.Below.Records.Annotations.{annotation_of};
-ghost use Rattle.minidump.specs.Below.Records.Crashpad.{crashpad_info_of};
+ghost use Rattle.minidump.specs.Below.Records.Crashpad.{crashpad_info_of, module_of};
 ghost use Rattle.minidump.specs.Below.Records.Dictionary.{entries_of};
+ghost use Rattle.minidump.specs.Promise.{crashpad_info_stream};
+ghost use Rattle.minidump.specs.Below.Records.CrashpadText.{annotation_text};
 ghost use Rattle.crash_json.specs.Tree.{Puts};
-ghost use Rattle.crash_json.specs.Crashpad.{annotation_json, annotations_json, crashpad_object};
-ghost use Rattle.crash_json.specs.Crashpad.{objects_json};
+ghost use Rattle.crash_json.specs.Crashpad.{annotation_json, annotations_json, crashpad_json};
+ghost use Rattle.crash_json.specs.Crashpad.{crashpad_module_json, crashpad_object, objects_json};
 
 use crate::tree::{Members, Put, Scalar, ToJson, put_array};
 use crash::annotation_text;
@@ -15,9 +18,6 @@ use std::alloc::{AllocError, Global};
 use std::collections::BTreeMap;
 
 impl ToJson for MinidumpCrashpadInfo {
-    ghost use Rattle.minidump.specs.Promise.{crashpad_info_stream};
-    ghost use Rattle.crash_json.specs.Crashpad.{crashpad_json};
-
     ghost json = { λ c. crashpad_json (crashpad_info_stream.value c) };
 
     fn put(&self, out: &mut Writer, alloc: Global) -> Put {
@@ -74,9 +74,6 @@ impl ToJson for CrashpadMember<'_> {
 }
 
 impl ToJson for MinidumpModuleCrashpadInfo {
-    ghost use Rattle.minidump.specs.Below.Records.Crashpad.{module_of};
-    ghost use Rattle.crash_json.specs.Crashpad.{crashpad_module_json};
-
     ghost json = { λ m. crashpad_module_json (module_of m) };
 
     #[tactic(auto, unfolding(crate::specs::Crashpad::crashpad_module_json))]
@@ -118,9 +115,6 @@ impl ToJson for ModuleMember<'_> {
 }
 
 impl ToJson for String {
-    ghost use Rattle.std.specs.Prelude.{string_bytes};
-    ghost use Rattle.json.specs.Json.{string};
-
     ghost json = { λ text. string (string_bytes text) };
 
     fn put(&self, out: &mut Writer, alloc: Global) -> Put {
@@ -151,9 +145,6 @@ fn texts_of<'l>(
 }
 
 impl<'l> ToJson for (&'l String, &'l String) {
-    ghost use Rattle.std.specs.Prelude.{string_bytes};
-    ghost use Rattle.crash_json.specs.Crashpad.{annotation_json};
-
     ghost json = { λ e. annotation_json (string_bytes e.0.now, string_bytes e.1.now) };
 
     fn put(&self, out: &mut Writer, alloc: Global) -> Put {
@@ -205,11 +196,6 @@ fn objects_of<'l>(
 }
 
 impl<'l> ToJson for (&'l String, &'l MinidumpAnnotation) {
-    ghost use Rattle.std.specs.Prelude.{string_bytes};
-    ghost use Rattle.minidump.specs.Below.Records.Annotations.{annotation_of};
-    ghost use Rattle.minidump.specs.Below.Records.CrashpadText.{annotation_text};
-    ghost use Rattle.crash_json.specs.Crashpad.{annotation_json};
-
     ghost json = { λ e. annotation_json
         (string_bytes e.0.now, annotation_text (annotation_of e.1.now)) };
 

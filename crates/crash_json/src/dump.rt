@@ -3,13 +3,15 @@ ghost use Rattle.std.specs.Prelude.{◌≡◌, Ok};
 ghost use Rattle.std.specs.Option.{option_copied, option_map};
 ghost use Rattle.minidump.specs.Below.Format.Error.{name_of_error};
 ghost use Rattle.minidump.specs.Below.Format.StreamType.{stream_type_of, type_name};
-ghost use Rattle.minidump.specs.Below.MemoryLists.Unified.{unified_list, unified_regions};
+ghost use Rattle.minidump.specs.Below.MemoryLists.Unified.{unified_list, unified_region};
+ghost use Rattle.minidump.specs.Below.MemoryLists.Unified.{unified_regions};
 ghost use Rattle.crash.specs.Crash.{crash_of, status_of};
 ghost use Rattle.crash_json.specs.Tree.{Adds, Puts, array_of};
 ghost use Rattle.crash_json.specs.Members.{report_of};
-ghost use Rattle.crash_json.specs.Minidump.{damage_object, file_members, minidump_json};
-ghost use Rattle.crash_json.specs.Minidump.{process_members, region_json, signature_members};
-ghost use Rattle.crash_json.specs.Minidump.{signed_members, unless_zero};
+ghost use Rattle.crash_json.specs.Minidump.{damage_json, damage_object, file_members};
+ghost use Rattle.crash_json.specs.Minidump.{minidump_json, process_members, region_json};
+ghost use Rattle.crash_json.specs.Minidump.{signature_members, signed_members, stream_json};
+ghost use Rattle.crash_json.specs.Minidump.{unless_zero};
 
 use crate::cause::widened;
 use crate::linux::put_environment;
@@ -178,8 +180,6 @@ impl ToJson for Member<'_, '_> {
 // ---- streams
 
 impl ToJson for StreamEntry {
-    ghost use Rattle.crash_json.specs.Minidump.{stream_json};
-
     ghost json = { stream_json };
 
     #[tactic(auto, unfolding(crate::specs::Minidump::stream_json))]
@@ -222,9 +222,6 @@ fn put_memory(out: &mut Writer, alloc: Global, memory: &UnifiedMemoryList<'_>) -
 }
 
 impl<'l, 'a> ToJson for UnifiedMemory<'l, 'a> {
-    ghost use Rattle.minidump.specs.Below.MemoryLists.Unified.{unified_region};
-    ghost use Rattle.crash_json.specs.Minidump.{region_json};
-
     ghost json = { λ r. region_json (unified_region r) };
 
     #[tactic(auto, unfolding(crate::specs::Minidump::region_json))]
@@ -240,8 +237,6 @@ impl<'l, 'a> ToJson for UnifiedMemory<'l, 'a> {
 // ---- damage
 
 impl ToJson for Damage {
-    ghost use Rattle.crash_json.specs.Minidump.{damage_json};
-
     ghost json = { damage_json };
 
     fn put(&self, out: &mut Writer, alloc: Global) -> Put {

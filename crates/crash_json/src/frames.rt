@@ -7,10 +7,10 @@ ghost use Rattle.crash_symbols.specs.NameParts.{call_of, source_of};
 ghost use Rattle.crash_symbols.specs.Shown.{shown_frame_of, symbolized_of};
 ghost use Rattle.crash_json.specs.Tree.{Adds, Puts, field_of, object_of, or_null};
 ghost use Rattle.crash_json.specs.Members.{context_in, report_of};
-ghost use Rattle.crash_json.specs.Frames.{file_at, inline_object, known_members, lossy};
-ghost use Rattle.crash_json.specs.Frames.{name_members, name_object, of_first, place_members};
-ghost use Rattle.crash_json.specs.Frames.{register_members, registers_json, source_file};
-ghost use Rattle.crash_json.specs.Frames.{source_line, trust_name};
+ghost use Rattle.crash_json.specs.Frames.{file_at, inline_json, inline_object, known_members};
+ghost use Rattle.crash_json.specs.Frames.{lossy, name_members, name_object, of_first};
+ghost use Rattle.crash_json.specs.Frames.{place_members, register_members, registers_json};
+ghost use Rattle.crash_json.specs.Frames.{source_file, source_line, trust_name};
 
 use crate::report::Report;
 use crate::tree::{Members, NumberedJson, Put, Scalar, ToJson, put_array};
@@ -282,9 +282,6 @@ fn source_line(source: Option<SourceLine<'_>>) -> Option<u64>
 }
 
 impl ToJson for InlinedCall<'_> {
-    ghost use Rattle.crash_symbols.specs.NameParts.{call_of};
-    ghost use Rattle.crash_json.specs.Frames.{inline_json};
-
     ghost json = { λ c. inline_json (call_of c) };
 
     fn put(&self, out: &mut Writer, alloc: Global) -> Put {

@@ -3,8 +3,10 @@ ghost use Rattle.std.specs.Prelude.{map};
 ghost use Rattle.minidump.specs.Below.Bytes.LinuxOsStr.{parts_of};
 ghost use Rattle.minidump.specs.Below.Contexts.Context.{map_ok};
 ghost use Rattle.minidump.specs.Promise.{linux_environ_stream, linux_proc_limits_stream};
+ghost use Rattle.crash.specs.Linux.{limit_of};
 ghost use Rattle.crash_json.specs.Tree.{Puts};
-ghost use Rattle.crash_json.specs.Linux.{environment_json, proc_limits_json, variables_json};
+ghost use Rattle.crash_json.specs.Linux.{environment_json, limit_json, proc_limits_json};
+ghost use Rattle.crash_json.specs.Linux.{variable_json, variables_json};
 
 use crate::crashpad::put_annotation;
 use crate::tree::{Members, Put, Scalar, ToJson, put_array};
@@ -36,9 +38,6 @@ pub(crate) fn put_proc_limits(
 }
 
 impl ToJson for ProcessLimit {
-    ghost use Rattle.crash.specs.Linux.{limit_of};
-    ghost use Rattle.crash_json.specs.Linux.{limit_json};
-
     ghost json = { λ l. limit_json (limit_of l) };
 
     #[tactic(auto, unfolding(crate::specs::Linux::limit_json))]
@@ -86,9 +85,6 @@ fn put_variables(
 }
 
 impl<'a> ToJson for (LinuxOsStr<'a>, LinuxOsStr<'a>) {
-    ghost use Rattle.minidump.specs.Below.Bytes.LinuxOsStr.{parts_of};
-    ghost use Rattle.crash_json.specs.Linux.{variable_json};
-
     ghost json = { λ p. variable_json (parts_of p) };
 
     fn put(&self, out: &mut Writer, alloc: Global) -> Put {

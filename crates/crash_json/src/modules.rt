@@ -1,14 +1,14 @@
 //! The modules, loaded and unloaded.
 ghost use Rattle.std.specs.Prelude.{◌≡◌, map};
 ghost use Rattle.std.specs.Option.{option_copied, option_map};
-ghost use Rattle.crash.specs.Modules.{loaded_of};
+ghost use Rattle.crash.specs.Modules.{loaded_of, unloaded_module_of};
 ghost use Rattle.crash_symbols.specs.Shown.{symbolized_of};
 ghost use Rattle.crash_symbols.specs.Symbols.{are_loaded};
 ghost use Rattle.crash_json.specs.Tree.{Adds, Puts};
 ghost use Rattle.crash_json.specs.Members.{report_of};
-ghost use Rattle.crash_json.specs.Modules.{are_corrupt, are_missing, main_module};
-ghost use Rattle.crash_json.specs.Modules.{module_members, modules_json, part_name, state_object};
-ghost use Rattle.crash_json.specs.Modules.{symbol_members};
+ghost use Rattle.crash_json.specs.Modules.{are_corrupt, are_missing, main_module, module_members};
+ghost use Rattle.crash_json.specs.Modules.{modules_json, part_name, state_object, symbol_members};
+ghost use Rattle.crash_json.specs.Modules.{unloaded_json, unreadable_json};
 
 use crate::report::Report;
 use crate::tree::{Members, NumberedJson, Put, Scalar, ToJson, put_numbered_array};
@@ -123,9 +123,6 @@ fn are_corrupt(state: SymbolState) -> bool
 }
 
 impl ToJson for UnloadedModule {
-    ghost use Rattle.crash.specs.Modules.{unloaded_module_of};
-    ghost use Rattle.crash_json.specs.Modules.{unloaded_json};
-
     ghost json = { λ m. unloaded_json (unloaded_module_of m) };
 
     #[tactic(auto, unfolding(crate::specs::Modules::unloaded_json))]
@@ -142,8 +139,6 @@ impl ToJson for UnloadedModule {
 }
 
 impl ToJson for UnreadableModule {
-    ghost use Rattle.crash_json.specs.Modules.{unreadable_json};
-
     ghost json = { unreadable_json };
 
     #[tactic(auto, unfolding(crate::specs::Modules::unreadable_json))]

@@ -1,8 +1,10 @@
 //! Where the thread that crashed stands.
 ghost use Rattle.std.specs.Prelude.{◌≡◌, IfOk, filter, map};
+ghost use Rattle.json.specs.Json.{string};
 ghost use Rattle.crash.specs.Addresses.{is_placed};
-ghost use Rattle.crash_json.specs.Tree.{Puts};
-ghost use Rattle.crash_json.specs.Point.{placed_json};
+ghost use Rattle.crash.specs.Point.{point_of};
+ghost use Rattle.crash_json.specs.Tree.{Puts, count};
+ghost use Rattle.crash_json.specs.Point.{placed_json, point_json, register_json, word_json};
 
 use crate::cause::put_address;
 use crate::frames::{index_of, offset_of, put_named};
@@ -12,9 +14,6 @@ use json::Writer;
 use std::alloc::{AllocError, Global};
 
 impl ToJson for CrashPoint<'_> {
-    ghost use Rattle.crash.specs.Point.{point_of};
-    ghost use Rattle.crash_json.specs.Point.{point_json};
-
     ghost json = { λ p. point_json (point_of p) };
 
     #[tactic(auto, unfolding(crate::specs::Point::point_json))]
@@ -87,8 +86,6 @@ fn placed_of(
 }
 
 impl ToJson for (&'static str, AddressFacts) {
-    ghost use Rattle.crash_json.specs.Point.{register_json};
-
     ghost json = { λ r. register_json (r.0.now, r.1) };
 
     fn put(&self, out: &mut Writer, alloc: Global) -> Put {
@@ -104,8 +101,6 @@ impl ToJson for (&'static str, AddressFacts) {
 
 // A byte of code, in decimal.
 impl ToJson for u8 {
-    ghost use Rattle.crash_json.specs.Tree.{count};
-
     ghost json = { count };
 
     fn put(&self, out: &mut Writer, alloc: Global) -> Put {
@@ -114,8 +109,6 @@ impl ToJson for u8 {
 }
 
 impl ToJson for StackWord {
-    ghost use Rattle.crash_json.specs.Point.{word_json};
-
     ghost json = { word_json };
 
     #[tactic(auto, unfolding(crate::specs::Point::word_json))]
@@ -133,8 +126,6 @@ impl ToJson for StackWord {
 // ---- the flags
 
 impl ToJson for &'static str {
-    ghost use Rattle.json.specs.Json.{string};
-
     ghost json = { λ name. string name.now };
 
     fn put(&self, out: &mut Writer, alloc: Global) -> Put {

@@ -2,8 +2,14 @@
 ghost use Rattle.std.specs.Prelude.{◌≡◌, length, map, string_bytes};
 ghost use Rattle.std.specs.Option.{option_copied, option_map};
 ghost use Rattle.minidump.specs.Below.Records.Record.{mac_record_of};
+ghost use Rattle.minidump.specs.Promise.{assertion_stream, handle_data_stream};
+ghost use Rattle.minidump.specs.Promise.{mac_crash_info_stream};
+ghost use Rattle.minidump.specs.Below.Records.Handles.{handle_of};
+ghost use Rattle.crash.specs.HandleKinds.{kind_of};
 ghost use Rattle.crash_json.specs.Tree.{Puts};
-ghost use Rattle.crash_json.specs.Records.{assertion_kind, assertion_object};
+ghost use Rattle.crash_json.specs.Records.{assertion_json, assertion_kind, assertion_object};
+ghost use Rattle.crash_json.specs.Records.{handle_json, handles_json, kind_json, mac_crash_json};
+ghost use Rattle.crash_json.specs.Records.{mac_record_json};
 
 use crate::tree::{Members, Put, Scalar, ToJson, put_array};
 use crash::HandleKind;
@@ -16,9 +22,6 @@ use minidump::{
 use std::alloc::Global;
 
 impl ToJson for MinidumpHandleDataStream {
-    ghost use Rattle.minidump.specs.Promise.{handle_data_stream};
-    ghost use Rattle.crash_json.specs.Records.{handles_json};
-
     ghost json = { λ handles. handles_json (handle_data_stream.value handles) };
 
     #[tactic(auto, using(crate::proofs::Tokens::views))]
@@ -28,9 +31,6 @@ impl ToJson for MinidumpHandleDataStream {
 }
 
 impl ToJson for MinidumpHandleDescriptor {
-    ghost use Rattle.minidump.specs.Below.Records.Handles.{handle_of};
-    ghost use Rattle.crash_json.specs.Records.{handle_json};
-
     ghost json = { λ h. handle_json (handle_of h) };
 
     #[tactic(auto, unfolding(crate::specs::Records::handle_json))]
@@ -45,9 +45,6 @@ impl ToJson for MinidumpHandleDescriptor {
 }
 
 impl ToJson for HandleKind {
-    ghost use Rattle.crash.specs.HandleKinds.{kind_of};
-    ghost use Rattle.crash_json.specs.Records.{kind_json};
-
     ghost json = { λ k. kind_json (kind_of k) };
 
     #[tactic(auto, unfolding(crate::specs::Records::kind_json))]
@@ -61,9 +58,6 @@ impl ToJson for HandleKind {
 }
 
 impl ToJson for MinidumpMacCrashInfo {
-    ghost use Rattle.minidump.specs.Promise.{mac_crash_info_stream};
-    ghost use Rattle.crash_json.specs.Records.{mac_crash_json};
-
     ghost json = { λ records. mac_crash_json (mac_crash_info_stream.value records) };
 
     #[tactic(auto, unfolding(crate::specs::Records::mac_crash_json))]
@@ -107,9 +101,6 @@ impl ToJson for MacMember<'_> {
 }
 
 impl ToJson for RawMacCrashInfo {
-    ghost use Rattle.minidump.specs.Below.Records.Record.{mac_record_of};
-    ghost use Rattle.crash_json.specs.Records.{mac_record_json};
-
     ghost json = { λ r. mac_record_json (mac_record_of r) };
 
     #[tactic(auto, unfolding(crate::specs::Records::mac_record_json))]
@@ -129,9 +120,6 @@ impl ToJson for RawMacCrashInfo {
 }
 
 impl ToJson for MinidumpAssertion {
-    ghost use Rattle.minidump.specs.Promise.{assertion_stream};
-    ghost use Rattle.crash_json.specs.Records.{assertion_json};
-
     ghost json = { λ a. assertion_json (assertion_stream.value a) };
 
     fn put(&self, out: &mut Writer, alloc: Global) -> Put {

@@ -1,8 +1,9 @@
 //! The system on which a process ran, and the release of Linux.
 ghost use Rattle.std.specs.Prelude.{◌≡◌, ◌++◌, IfOk, codes, string_bytes};
 ghost use Rattle.crash.specs.Process.{system_of};
+ghost use Rattle.crash.specs.Release.{release_of};
 ghost use Rattle.crash_json.specs.Tree.{Puts};
-ghost use Rattle.crash_json.specs.System.{system_object, with_build};
+ghost use Rattle.crash_json.specs.System.{release_json, system_json, system_object, with_build};
 
 use crate::tree::{Members, Put, Scalar, ToJson};
 use crash::{CrashSystem, LsbRelease};
@@ -11,9 +12,6 @@ use minidump::text::{Piece, format_pieces};
 use std::alloc::{AllocError, Global};
 
 impl ToJson for CrashSystem {
-    ghost use Rattle.crash.specs.Process.{system_of};
-    ghost use Rattle.crash_json.specs.System.{system_json};
-
     ghost json = { λ s. system_json (system_of s) };
 
     fn put(&self, out: &mut Writer, alloc: Global) -> Put {
@@ -80,9 +78,6 @@ fn put_texts<'t>(
 }
 
 impl ToJson for LsbRelease {
-    ghost use Rattle.crash.specs.Release.{release_of};
-    ghost use Rattle.crash_json.specs.System.{release_json};
-
     ghost json = { λ r. release_json (release_of r) };
 
     #[tactic(auto, unfolding(crate::specs::System::release_json))]

@@ -6,8 +6,8 @@ ghost use Rattle.crash_symbols.specs.Shown.{shown_frame_of, shown_of};
 ghost use Rattle.crash_json.specs.Tree.{Adds, Puts};
 ghost use Rattle.crash_json.specs.Members.{context_in, report_of};
 ghost use Rattle.crash_json.specs.Threads.{candidates_in, crashing_json, end_name, frames_in};
-ghost use Rattle.crash_json.specs.Threads.{index_members, pointer_end_name, registers_of};
-ghost use Rattle.crash_json.specs.Threads.{shown_context, thread_members};
+ghost use Rattle.crash_json.specs.Threads.{index_members, pointer_end_name, range_json};
+ghost use Rattle.crash_json.specs.Threads.{registers_of, short_json, shown_context, thread_members};
 
 use crate::cause::problem_name;
 use crate::frames::EachFrame;
@@ -195,8 +195,6 @@ impl ToJson for ThreadMember<'_> {
 }
 
 impl ToJson for StackRange {
-    ghost use Rattle.crash_json.specs.Threads.{range_json};
-
     ghost json = { range_json };
 
     #[tactic(auto, unfolding(crate::specs::Threads::range_json))]
@@ -210,8 +208,6 @@ impl ToJson for StackRange {
 }
 
 impl ToJson for ShortContext {
-    ghost use Rattle.crash_json.specs.Threads.{short_json};
-
     ghost json = { short_json };
 
     #[tactic(auto, unfolding(crate::specs::Threads::short_json))]

@@ -3,8 +3,7 @@
 //! A type has a JSON value by [`ToJson`], and so has each item of a list; by [`NumberedJson`] an item's
 //! value has its number in it. [`Members`] are the members of an object, whose values are of one type:
 //! it puts the object, or adds them to those that were put.
-ghost use Rattle.std.specs.Prelude.{◌≡◌, ◌≤◌, ℕ, IfOk, Some, map};
-ghost use Rattle.std.specs.Prelude.{string_bytes};
+ghost use Rattle.std.specs.Prelude.{◌≡◌, ◌≤◌, ℕ, IfOk, Some, map, string_bytes};
 ghost use Rattle.std.specs.Option.{option_copied, option_map};
 ghost use Rattle.std.specs.Result.{result_ok};
 ghost use Rattle.std.specs.Str.{IsUtf8};
@@ -178,8 +177,6 @@ pub(crate) fn put_found<T: ToJson>(out: &mut Writer, alloc: Global, found: &Resu
 }
 
 impl<'l, T: ToJson> ToJson for &'l [T] {
-    ghost use Rattle.crash_json.specs.Tree.{array_of};
-
     ghost json = { λ items. array_of T.json items.now };
 
     fn put(&self, out: &mut Writer, alloc: Global) -> Put {
