@@ -38,10 +38,10 @@ split (m ∷ a) b = ap (λ ts. Token.key m.0 ∷ (json_tokens m.1 ++ ts)) (split
     ∙ ap (λ ts. Token.key m.0 ∷ ts) (sym (append_assoc (json_tokens m.1) (member_list_tokens a) (member_list_tokens b)))
 
 -- members in brackets are an object
-pub in_object : (t u v w : List Token) (ms : List (List ℕ × Json))
-    → u ≡ t ++ (begin_object ∷ []) → v ≡ u ++ member_list_tokens ms → w ≡ v ++ (end_object ∷ []) → w ≡ t ++ json_tokens (object_of ms)
-in_object t u v w ms begin members end =
-    end ∙ ap (λ ts. ts ++ (end_object ∷ [])) (members ∙ ap (λ ts. ts ++ member_list_tokens ms) begin) ∙ object_of_members t ms
+pub in_object : (t u v : List Token) (ms : List (List ℕ × Json))
+    → u ≡ t ++ (begin_object ∷ []) → v ≡ u ++ member_list_tokens ms → v ++ (end_object ∷ []) ≡ t ++ json_tokens (object_of ms)
+in_object t u v ms begin members =
+    ap (λ ts. ts ++ (end_object ∷ [])) (members ∙ ap (λ ts. ts ++ member_list_tokens ms) begin) ∙ object_of_members t ms
 
 -- a name and its value are a member
 pub named : (t u v : List Token) (name : List ℕ) (j : Json) → u ≡ t ++ (Token.key name ∷ []) → v ≡ u ++ json_tokens j → v ≡ t ++ member_list_tokens ((name, j) ∷ [])
@@ -73,10 +73,10 @@ array_of_items f xs t =
     ∙ ap (λ ts. t ++ (begin_array ∷ ts)) (sym (items_of_list f xs))
 
 -- items in brackets are an array
-pub in_array : {X : Type 0} (f : X → Json) (xs : List X) (t u v w : List Token)
-    → u ≡ t ++ (begin_array ∷ []) → v ≡ u ++ item_tokens f xs → w ≡ v ++ (end_array ∷ []) → w ≡ t ++ json_tokens (array_of f xs)
-in_array f xs t u v w begin items end =
-    end ∙ ap (λ ts. ts ++ (end_array ∷ [])) (items ∙ ap (λ ts. ts ++ item_tokens f xs) begin) ∙ array_of_items f xs t
+pub in_array : {X : Type 0} (f : X → Json) (xs : List X) (t u v : List Token)
+    → u ≡ t ++ (begin_array ∷ []) → v ≡ u ++ item_tokens f xs → v ++ (end_array ∷ []) ≡ t ++ json_tokens (array_of f xs)
+in_array f xs t u v begin items =
+    ap (λ ts. ts ++ (end_array ∷ [])) (items ∙ ap (λ ts. ts ++ item_tokens f xs) begin) ∙ array_of_items f xs t
 
 -- after what was put, the tokens of an item and of those after it are those from the item's number
 -- on

@@ -229,8 +229,7 @@ impl ToJson for AddressFacts {
     fn put(&self, out: &mut Writer, alloc: Global) -> Put {
         out.begin_object()?;
         put_address(out, alloc, self)?;
-        out.end_object()?;
-        Ok(())
+        out.end_object()
     }
 }
 

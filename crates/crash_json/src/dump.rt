@@ -34,8 +34,7 @@ pub(crate) fn put_minidump(out: &mut Writer, alloc: Global, report: Report<'_, '
     put_process(out, alloc, report.limits.environment, report.crash)?;
     put_file(out, alloc, report.crash)?;
     put_crash(out, alloc, report)?;
-    out.end_object()?;
-    Ok(())
+    out.end_object()
 }
 
 // Returns a time stamp, or `None` if it is 0, which says nothing.

@@ -47,8 +47,7 @@ impl<'s, 'n> NumberedJson<ShownFrame<'s, 'n>> for EachFrame<'_, '_, '_, '_> {
         out.begin_object()?;
         put_place(out, alloc, self, number, &item.frame)?;
         put_names(out, alloc, self.report.symbols, item)?;
-        out.end_object()?;
-        Ok(())
+        out.end_object()
     }
 }
 

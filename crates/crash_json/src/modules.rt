@@ -47,8 +47,7 @@ impl NumberedJson<CrashModule> for Report<'_, '_, '_, '_> {
         out.begin_object()?;
         put_module(out, alloc, item)?;
         put_symbols(out, alloc, self.symbols, number)?;
-        out.end_object()?;
-        Ok(())
+        out.end_object()
     }
 }
 

@@ -92,8 +92,7 @@ impl ToJson for (&'static str, AddressFacts) {
         out.begin_object()?;
         Members(&[("name", Scalar::Text(Some(self.0)))]).add(out, alloc)?;
         put_address(out, alloc, &self.1)?;
-        out.end_object()?;
-        Ok(())
+        out.end_object()
     }
 }
 

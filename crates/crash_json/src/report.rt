@@ -54,8 +54,7 @@ impl ToJson for Report<'_, '_, '_, '_> {
         out.key("threads")?;
         put_numbered_array(out, alloc, threads, &each)?;
         put_records(out, alloc, report)?;
-        out.end_object()?;
-        Ok(())
+        out.end_object()
     }
 }
 

@@ -46,8 +46,7 @@ impl NumberedJson<CrashThread> for EachThread<'_, '_, '_, '_> {
         put_members(out, alloc, item, &walk)?;
         out.key("frames")?;
         put_numbered_array(out, alloc, frames.as_slice(), &each)?;
-        out.end_object()?;
-        Ok(())
+        out.end_object()
     }
 }
 

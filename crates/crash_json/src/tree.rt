@@ -73,8 +73,7 @@ impl<T: ToJson> Members<'_, '_, T> {
     {
         out.begin_object()?;
         self.add(out, alloc)?;
-        out.end_object()?;
-        Ok(())
+        out.end_object()
     }
 
     /// Adds the members to those of an object.
@@ -192,8 +191,7 @@ pub(crate) fn put_array<T: ToJson>(out: &mut Writer, alloc: Global, items: &[T])
     for x in items {
         x.put(out, alloc)?;
     }
-    out.end_array()?;
-    Ok(())
+    out.end_array()
 }
 
 /// Puts an array of the values of items, which may depend on their numbers.
@@ -209,6 +207,5 @@ pub(crate) fn put_numbered_array<X, F: NumberedJson<X>>(
     for (number, x) in items.iter().enumerate() {
         by.put_at(number, x, out, alloc)?;
     }
-    out.end_array()?;
-    Ok(())
+    out.end_array()
 }

@@ -5,8 +5,7 @@ use Rattle.crash_json.proofs.dump.put_minidump.Goals as goal
 
 pub returns : goal.returns
 returns c = record {
-  tokens = in_object _ _ _ _ _ c.in_ok-begin_object.ensures.ok
-      (more _ _ _ _ _ c.in_ok-put_process.ensures.tokens (more _ _ _ _ _ c.in_ok-put_file.ensures.tokens c.in_ok-put_crash.ensures.tokens))
-      c.in_ok-end_object.ensures.ok;
+  tokens = rw (in_object _ _ _ _ c.in_ok-begin_object.ensures.ok
+      (more _ _ _ _ _ c.in_ok-put_process.ensures.tokens (more _ _ _ _ _ c.in_ok-put_file.ensures.tokens c.in_ok-put_crash.ensures.tokens))) at c.end_object.ensures.ok;
   before = search rules;
 }

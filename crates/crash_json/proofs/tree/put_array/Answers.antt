@@ -9,7 +9,7 @@ returns g c =
     let json = g.T.ToJson.json in let items = c.args.items.now in
     let all = take_all c.loop-x.x-index items c.loop-x-test.false in
     record {
-      tokens = in_array json items _ _ _ _ c.in_ok-begin_array.ensures.ok
-          (c.loop-x.invariant.tokens ∙ ap (λ xs. c.begin_array.new.self.tokens ++ item_tokens json xs) all) c.in_ok-end_array.ensures.ok;
+      tokens = rw (in_array json items _ _ _ c.in_ok-begin_array.ensures.ok
+          (c.loop-x.invariant.tokens ∙ ap (λ xs. c.begin_array.new.self.tokens ++ item_tokens json xs) all)) at c.end_array.ensures.ok;
       before = search rules;
     }

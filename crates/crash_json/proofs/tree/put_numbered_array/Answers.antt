@@ -16,6 +16,6 @@ returns g c =
     let json = g.F.NumberedJson.json_at c.args.by.now in let items = c.args.items.now in
     let all = last_numbered json items c.loop-number.number c.loop-number.out.tokens c.loop-number-test.false c.loop-number.invariant.tokens in
     record {
-      tokens = in_array (λ p. json p.0 p.1) (enumerate_from 0 items) _ _ _ _ c.in_ok-begin_array.ensures.ok all c.in_ok-end_array.ensures.ok;
+      tokens = rw (in_array (λ p. json p.0 p.1) (enumerate_from 0 items) _ _ _ c.in_ok-begin_array.ensures.ok all) at c.end_array.ensures.ok;
       before = search rules;
     }

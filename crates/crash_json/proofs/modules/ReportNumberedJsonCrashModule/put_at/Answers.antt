@@ -5,7 +5,7 @@ use Rattle.crash_json.proofs.modules.ReportNumberedJsonCrashModule.put_at.Goals 
 
 pub returns : goal.returns
 returns c = record {
-  tokens = in_object _ _ _ _ _ c.in_ok-begin_object.ensures.ok
-      (more _ _ _ _ _ c.in_ok-put_module.ensures.tokens c.in_ok-put_symbols.ensures.tokens) c.in_ok-end_object.ensures.ok;
+  tokens = rw (in_object _ _ _ _ c.in_ok-begin_object.ensures.ok
+      (more _ _ _ _ _ c.in_ok-put_module.ensures.tokens c.in_ok-put_symbols.ensures.tokens)) at c.end_object.ensures.ok;
   before = search rules;
 }

@@ -5,7 +5,7 @@ use Rattle.crash_json.proofs.point.Tuple2RefStrAddressFactsToJson.put.Goals as g
 
 pub returns : goal.returns
 returns c = record {
-  tokens = in_object _ _ _ _ _ c.in_ok-begin_object.ensures.ok
-      (more _ _ _ _ _ c.in_ok-add.ensures.tokens c.in_ok-put_address.ensures.tokens) c.in_ok-end_object.ensures.ok;
+  tokens = rw (in_object _ _ _ _ c.in_ok-begin_object.ensures.ok
+      (more _ _ _ _ _ c.in_ok-add.ensures.tokens c.in_ok-put_address.ensures.tokens)) at c.end_object.ensures.ok;
   before = search rules;
 }

@@ -15,7 +15,7 @@ returns c =
     let frames = named_array (frame _) _ shown_frame_of _ _ _ _ _ _ (ap frame c.shown_context-context.ensures)
     (ap (map shown_frame_of) c.as_slice.ensures.value ∙ values) c.in_ok-key.ensures.ok c.in_ok-put_numbered_array.ensures.tokens in
     record {
-      tokens = in_object _ _ _ _ _ c.in_ok-begin_object.ensures.ok
-          (more _ _ _ _ _ c.in_ok-put_index.ensures.tokens (more _ _ _ _ _ members frames)) c.in_ok-end_object.ensures.ok;
+      tokens = rw (in_object _ _ _ _ c.in_ok-begin_object.ensures.ok
+          (more _ _ _ _ _ c.in_ok-put_index.ensures.tokens (more _ _ _ _ _ members frames))) at c.end_object.ensures.ok;
       before = search rules;
     }
