@@ -40,7 +40,7 @@ use Rattle.crash_symbols.specs.Names.{CallValue, NamedFrameValue}
 use Rattle.crash_symbols.specs.Backtraces.{BacktraceValue}
 use Rattle.crash_symbols.specs.Shown.{SymbolizedValue}
 use Rattle.crash_json.specs.Tree.{count, hex_string, members_of, numbered_array_of}
-use Rattle.crash_json.proofs.TreeDepth.{array_within, both_within, flat, numbered_array_within, or_null_within}
+use Rattle.crash_json.proofs.TreeDepth.{all_within, array_within, both_within, flat, numbered_array_within, or_null_within}
 use Rattle.crash_json.specs.declared.JsonLimits.{JsonLimits}
 use Rattle.crash_json.specs.Cause.{address_json, address_members, crash_info_json, crash_object, exception_json, memory_json}
 use Rattle.crash_json.specs.Cause.{read_json, sender_json, unread_json}
@@ -127,7 +127,7 @@ thread_members_depth t walk = omega (arith, flat, or_null_within range_json 1 ra
 
 thread_depth : (r : ReportValue) (is_crashing : Bool) (number : ℕ) (t : ThreadValue) → depth (thread_json r is_crashing number t) ≤ 5
 thread_depth r true number t = omega (arith, both_within, thread_members_depth, frames_depth r t.context)
-thread_depth r false number t = omega (arith, both_within, thread_members_depth, frames_depth r None)
+thread_depth r false number t = omega (arith, all_within, thread_members_depth, frames_depth r None)
 
 crashing_depth : (r : ReportValue) → depth (crashing_json r) ≤ 5
 crashing_depth r = or_null_within (λ p. thread_json r true p.0 p.1) 5 (λ p. thread_depth r true p.0 p.1) (crashed_thread r.crash.threads)
@@ -275,7 +275,7 @@ signed_depth c signature =
     )
 
 minidump_depth : (r : ReportValue) → depth (minidump_json r) ≤ 6
-minidump_depth r = omega (arith, both_within, process_depth, file_depth, signed_depth)
+minidump_depth r = omega (arith, all_within, process_depth, file_depth, signed_depth)
 
 -- ---- the soft errors
 

@@ -11,13 +11,13 @@ or_null_within json bound each None = omega arith
 or_null_within json bound each (Some x) = each x
 
 -- a text, a number in hexadecimal and one in decimal, each of which may be `null`
-flat_text : (o : Option (List ℕ)) → depth (or_null string o) ≤ 0
+pub flat_text : (o : Option (List ℕ)) → depth (or_null string o) ≤ 0
 flat_text o = or_null_within string 0 (λ x. omega arith) o
 
-flat_hex : (o : Option ℕ) → depth (or_null hex_string o) ≤ 0
+pub flat_hex : (o : Option ℕ) → depth (or_null hex_string o) ≤ 0
 flat_hex o = or_null_within hex_string 0 (λ x. omega arith) o
 
-flat_count : (o : Option ℕ) → depth (or_null count o) ≤ 0
+pub flat_count : (o : Option ℕ) → depth (or_null count o) ≤ 0
 flat_count o = or_null_within count 0 (λ x. omega arith) o
 
 pub ruleset flat = (flat_text, flat_hex, flat_count)
@@ -39,3 +39,8 @@ numbered_array_within json bound each xs = array_within (λ p. json p.0 p.1) bou
 pub both_within : (a b : List (List ℕ × Json)) → members_depth (members_of (a ++ b)) ≤ max (members_depth (members_of a)) (members_depth (members_of b))
 both_within [] b = omega arith
 both_within (m ∷ a) b = omega (arith, both_within a b)
+
+-- members after others, and others after these
+pub all_within : (a b c : List (List ℕ × Json))
+    → members_depth (members_of (a ++ (b ++ c))) ≤ max (members_depth (members_of a)) (max (members_depth (members_of b)) (members_depth (members_of c)))
+all_within a b c = omega (arith, both_within a (b ++ c), both_within b c)
