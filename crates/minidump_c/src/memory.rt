@@ -32,9 +32,9 @@ pub extern "C" fn minidump_memory_at(
     ensures { Ends result (IsRegionAt bytes.now address region.new) (IsDumpError bytes.now)
         (region.new ≡ region.old) }
 {
-    match region_at(alloc, bytes, address) {
+    match found_at(alloc, bytes, address) {
         Ok(found) => {
-            *region = found;
+            *region = found.0;
             0
         }
         Err(error) => status_of(error),
@@ -54,31 +54,26 @@ pub extern "C" fn minidump_read_memory(
     ensures { Ends result (IsFilled (IsReadAt bytes.now address) out.old out.new count.new)
         (IsDumpError bytes.now) ((out.new ≡ out.old) × (count.new ≡ count.old)) }
 {
-    match bytes_at(alloc, bytes, address) {
-        Ok(read) => {
-            *count = fill(read, out);
+    match found_at(alloc, bytes, address) {
+        Ok(found) => {
+            *count = fill(found.1, out);
             0
         }
         Err(error) => status_of(error),
     }
 }
 
-fn region_at(alloc: Global, bytes: &[u8], address: u64) -> Result<Region, Error>
-    ensures found { IfOk result (λ region. IsRegionAt bytes.now address region) }
+// Returns the region of memory that contains the address, and its bytes from there on; zeros and no
+// bytes if there is none.
+fn found_at<'a>(alloc: Global, bytes: &'a [u8], address: u64) -> Result<(Region, &'a [u8]), Error>
+    ensures region { IfOk result (λ found. IsRegionAt bytes.now address found.0) }
+    ensures read { IfOk result (λ found. IsReadAt bytes.now address found.1.now) }
     ensures error { IfErr result (IsDumpError bytes.now) }
 {
     let dump = Minidump::read(alloc, bytes)?;
     let memory = dump.get_memory(alloc)?;
-    Ok(row_of(memory_at(memory.as_ref(), address)))
-}
-
-fn bytes_at<'a>(alloc: Global, bytes: &'a [u8], address: u64) -> Result<&'a [u8], Error>
-    ensures found { IfOk result (λ read. IsReadAt bytes.now address read.now) }
-    ensures error { IfErr result (IsDumpError bytes.now) }
-{
-    let dump = Minidump::read(alloc, bytes)?;
-    let memory = dump.get_memory(alloc)?;
-    Ok(bytes_from(memory_at(memory.as_ref(), address), address))
+    let found = memory_at(memory.as_ref(), address);
+    Ok((row_of(found), bytes_from(found, address)))
 }
 
 // Finds the region of memory that contains the address.
