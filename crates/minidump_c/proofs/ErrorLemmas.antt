@@ -1,7 +1,7 @@
 -- Memory runs out only at a directory with entries.
 use Rattle.std.specs.Prelude.{◌≡◌, ℕ, ◌<◌, List, Option, Some, None, Result, Ok, IfErr, IsErrAnd, IsSome, OnSome}
 use Rattle.std.specs.Option.{option_copied}
-use Rattle.std.proofs.Common.{Bor, refl, inr}
+use Rattle.std.proofs.Common.{Bor, inr}
 use Rattle.std.proofs.lemmas.Bool.{false≢true}
 use Rattle.std.proofs.lemmas.Result.{err_from_is_err_and}
 use Rattle.minidump.specs.declared.Error.{Error}
@@ -15,13 +15,10 @@ on_copied None m is has k = absurd (false≢true k)
 
 module _ (d : Dump) (bytes : List ℕ) (is : dump_in bytes ≡ Ok d) where
   -- memory ran out at a directory with entries
-  pub at_entry : 0 < d.header.stream_count → IsDumpError bytes OutOfMemory
-  at_entry has = inr (refl, rw is has)
-
-  at_entry_by : (e : Error) → (e ≡ OutOfMemory) × (0 < d.header.stream_count) → IsDumpError bytes e
-  at_entry_by e k = rw (k.0) (at_entry k.1)
+  at_entry : (e : Error) → (e ≡ OutOfMemory) × (0 < d.header.stream_count) → IsDumpError bytes e
+  at_entry e k = inr (k.0, rw is k.1)
 
   -- the exit of a `?` on such an error
   pub error_at_entry : {X : Type 0} (r : Result X Error) (e : Error) → IsErrAnd r (λ y. y ≡ e) → (e ≡ OutOfMemory) × (0 < d.header.stream_count)
       → IfErr r (IsDumpError bytes)
-  error_at_entry r e exit k = let p = err_from_is_err_and r exit in rw (p.1, p.2) (at_entry_by e k)
+  error_at_entry r e exit k = let p = err_from_is_err_and r exit in rw (p.1, p.2) (at_entry e k)

@@ -121,10 +121,7 @@ fn rows_in(alloc: Global, bytes: &[u8], names: &CodeNames<'_>, scan: usize) -> R
     let crash = Crash::read(alloc, bytes, names, scan)?;
     let rows = rows_of(alloc, &crash);
     crash.close();
-    match rows {
-        Ok(rows) => Ok(rows),
-        Err(_) => Err(Error::OutOfMemory),
-    }
+    Ok(rows?)
 }
 
 // Makes the rows of a crash.

@@ -39,10 +39,7 @@ fn table(alloc: Global, bytes: &[u8]) -> Result<Vec<Region>, Error>
 {
     let dump = Minidump::read(alloc, bytes)?;
     let memory = dump.get_memory(alloc)?;
-    match rows(alloc, memory.as_ref()) {
-        Ok(rows) => Ok(rows),
-        Err(_) => Err(Error::OutOfMemory),
-    }
+    Ok(rows(alloc, memory.as_ref())?)
 }
 
 fn rows(alloc: Global, memory: Option<&UnifiedMemoryList<'_>>) -> Result<Vec<Region>, AllocError>
