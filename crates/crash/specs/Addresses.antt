@@ -24,7 +24,8 @@ use Rattle.crash.specs.Contexts.{system_of}
 use Rattle.crash.specs.Last.{last_index}
 use Rattle.crash.specs.Stacks.{named_stack}
 
--- the address, where it is in the 64 KiB from 0 on, which no process maps
+-- the address, where it is in the 64 KiB from 0 on, which Windows doesn't map, nor Linux by default but on
+-- ARM
 abbrev pub null_offset : ℕ → Option ℕ
 null_offset address = if nat_lt address 0x1_0000 then Some address else None
 

@@ -159,14 +159,19 @@ sender_in system r = option_and_then (λ s. sender_on s.os s.cpu r) system
 
 -- ---- an address that isn't known
 
--- a signal is the kernel's own and has no address: SI_KERNEL, 0x80, whose `si_addr` is 0. So are those of
--- a general protection, as for an address that isn't canonical, and of x86's `int3`
-abbrev pub is_of_kernel : MINIDUMP_EXCEPTION → Bool
-is_of_kernel r =
-    is_signal r.exception_code && r.exception_flags == 0x80 && r.exception_address == 0
+-- the signals of faults, which alone have an `si_addr` (sigaction(2)): SIGILL, SIGTRAP, SIGBUS, SIGFPE and
+-- SIGSEGV
+abbrev pub is_fault : ℕ → Bool
+is_fault signal = signal == 4 || signal == 5 || signal == 7 || signal == 8 || signal == 11
+
+-- an address of 0 says nothing: there is no fault, or it is the kernel's own without an address, by SI_KERNEL,
+-- 0x80. So are those of a general protection, as for an address that isn't canonical, and of x86's `int3`
+abbrev pub has_no_fault_address : MINIDUMP_EXCEPTION → Bool
+has_no_fault_address r = r.exception_address == 0
+    && (not (is_fault r.exception_code) || r.exception_flags == 0x80)
 
 -- the record of an exception on an operating system has no address of a crash
 abbrev pub lacks_address : Os → MINIDUMP_EXCEPTION → Bool
-lacks_address Linux r = is_of_kernel r
-lacks_address Android r = is_of_kernel r
+lacks_address Linux r = has_no_fault_address r
+lacks_address Android r = has_no_fault_address r
 lacks_address _ r = false

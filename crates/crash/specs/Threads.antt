@@ -7,6 +7,10 @@ use Rattle.std.specs.Result.{result_ok}
 use Rattle.minidump.specs.declared.CrashReason.{CrashReason}
 use Rattle.minidump.specs.declared.Error.{Error}
 use Rattle.minidump.specs.declared.MinidumpContext.{MinidumpContext}
+use Rattle.minidump.specs.declared.system_info.Cpu.{Cpu}
+use Rattle.minidump.specs.declared.system_info.Os.{Os}
+use Rattle.minidump.specs.declared.system_info.Os.TheVariants.{Windows}
+use Rattle.minidump.specs.Below.MemoryLists.Unified.{UnifiedRegions}
 use Rattle.minidump.specs.Below.Reasons.Names.{Lists}
 use Rattle.minidump.specs.Below.Reasons.ReasonText.{reason_text}
 use Rattle.minidump.specs.Below.Records.ThreadNames.{ThreadName, name_of_thread}
@@ -77,10 +81,16 @@ short_context t = option_and_then (λ c. c.short) t.context
 abbrev pub name_in : Result (List ThreadName) Error → ℕ → Option (List ℕ)
 name_in names id = option_and_then (λ names. name_of_thread names id) (result_ok names)
 
--- the last error of a thread, where the system is known
+-- the last error of a thread on an operating system: Windows alone keeps it, in the thread's environment
+-- block. Elsewhere what a record calls that block is none
+abbrev pub error_on : Os → Cpu → Lists → UnifiedRegions → Thread → Option CrashReason
+error_on Windows cpu names memory t = error_in names memory (last_error_address cpu t.raw.teb)
+error_on _ cpu names memory t = None
+
+-- the same where the system is known
 abbrev pub last_error_code : Lists → ContentsValue → Thread → Option CrashReason
-last_error_code names c t = option_and_then
-    (λ s. error_in names c.space.memory (last_error_address s.cpu t.raw.teb)) (system_of c)
+last_error_code names c t =
+    option_and_then (λ s. error_on s.os s.cpu names c.space.memory t) (system_of c)
 
 -- the words for it
 abbrev pub last_error_in : Lists → ContentsValue → Thread → Option (List ℕ)

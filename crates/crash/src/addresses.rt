@@ -31,7 +31,8 @@ use stack_walk::module_place;
 pub struct AddressFacts {
     /// The address.
     pub address: u64,
-    /// The same if it is below 0x10000, where no process maps memory: an offset from a null pointer.
+    /// The same if it is below 0x10000, where Windows maps no memory, nor Linux by default but on
+    /// ARM: an offset from a null pointer.
     pub null_offset: Option<u64>,
     /// Whether the processor can access it: on x86-64 whether bits 47 to 63 are alike; true on
     /// other processors, and without system information. For an access to an address that isn't

@@ -77,8 +77,9 @@ pub struct CrashException {
     pub sender: Option<Sender>,
     /// The address of the crash: the one that was accessed where the record has it, else that of
     /// the record, in as many bits as a pointer has. `None` without system information, for a signal
-    /// that a process sent, and on Linux and Android for one that the kernel sent without an address,
-    /// by SI_KERNEL, as for an access to an address that isn't canonical.
+    /// that a process sent, and on Linux and Android if it is 0, but for SIGILL, SIGTRAP, SIGBUS,
+    /// SIGFPE and SIGSEGV, which have an address unless the kernel sent them without one, by
+    /// SI_KERNEL, as for an access to an address that isn't canonical.
     pub address: Option<u64>,
     /// The reason of the crash in words, or `None` without system information.
     pub reason: Option<String>,

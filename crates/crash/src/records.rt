@@ -4,8 +4,8 @@ ghost use Rattle.std.specs.Option.{option_copied, option_map, option_map_or};
 ghost use Rattle.minidump.specs.Promise.{system_info_stream};
 ghost use Rattle.crash.specs.Records.{access_in, access_of_number, access_on, description_in};
 ghost use Rattle.crash.specs.Records.{has_both_ids, is_process, parameter_bytes, text_unless_empty};
-ghost use Rattle.crash.specs.Records.{is_low_access, is_of_kernel, is_sent, is_signal};
-ghost use Rattle.crash.specs.Records.{lacks_address};
+ghost use Rattle.crash.specs.Records.{has_no_fault_address, is_fault, is_low_access, is_sent};
+ghost use Rattle.crash.specs.Records.{is_signal, lacks_address};
 ghost use Rattle.crash.specs.Records.{parameters_in, sender_at, sender_by, sender_if_sent, sender_in};
 ghost use Rattle.crash.specs.Records.{sender_on, sender_with, signal_code, signal_code_name};
 
@@ -23,7 +23,13 @@ const EXCEPTION_IN_PAGE_ERROR: u32 = 0xc000_0006;
 // The flags of a record of LLDB, which is llvm's `LLDB_FLAG`.
 const LLDB_FLAG: u32 = 0x4c4c_4442;
 
+const SIGILL: u32 = 4;
+
+const SIGTRAP: u32 = 5;
+
 const SIGBUS: u32 = 7;
+
+const SIGFPE: u32 = 8;
 
 const SIGSEGV: u32 = 11;
 
@@ -175,16 +181,28 @@ pub(crate) fn lacks_address(os: Os, raw: &MINIDUMP_EXCEPTION) -> bool
     ensures { result ≡ lacks_address os raw.now }
 {
     match os {
-        Os::Linux | Os::Android => is_of_kernel(raw),
+        Os::Linux | Os::Android => has_no_fault_address(raw),
         _ => false,
     }
 }
 
-// Tells whether a signal is the kernel's own and has no address.
-fn is_of_kernel(raw: &MINIDUMP_EXCEPTION) -> bool
-    ensures { result ≡ is_of_kernel raw.now }
+// Tells whether the address of a signal's record says nothing.
+fn has_no_fault_address(raw: &MINIDUMP_EXCEPTION) -> bool
+    ensures { result ≡ has_no_fault_address raw.now }
 {
-    is_signal(raw.exception_code) && raw.exception_flags == SI_KERNEL && raw.exception_address == 0
+    raw.exception_address == 0
+        && (!is_fault(raw.exception_code) || raw.exception_flags == SI_KERNEL)
+}
+
+// Tells whether a signal is that of a fault.
+fn is_fault(signal: u32) -> bool
+    ensures { result ≡ is_fault signal }
+{
+    signal == SIGILL
+        || signal == SIGTRAP
+        || signal == SIGBUS
+        || signal == SIGFPE
+        || signal == SIGSEGV
 }
 
 // Returns the process that sent the signal, if one did.

@@ -7,10 +7,10 @@ ghost use Rattle.minidump.specs.Below.MemoryLists.Unified.{unified_list};
 ghost use Rattle.minidump.specs.Crash.{error_in};
 ghost use Rattle.minidump.specs.Thread.{last_error_address, thread_of};
 ghost use Rattle.crash.specs.Contents.{contents_of};
-ghost use Rattle.crash.specs.Threads.{entries_in, last_error_code, last_error_in, name_in};
+ghost use Rattle.crash.specs.Threads.{entries_in, error_on, last_error_code, last_error_in, name_in};
 
 use crate::contents::Contents;
-use minidump::system_info::Cpu;
+use minidump::system_info::{Cpu, Os};
 use minidump::{
     CodeNames, CrashReason, Error, MinidumpThread, MinidumpThreadList, MinidumpThreadNames,
     UnifiedMemoryList, laws,
@@ -66,11 +66,27 @@ fn last_error<'a>(
         (thread_of thread.now) }
 {
     let system = contents.system.system.as_ref().ok()?;
-    error_on(system.cpu, &contents.space.memory, names, thread)
+    error_on(system.os, system.cpu, &contents.space.memory, names, thread)
 }
 
-// Returns the last error of a thread in a process of such processors, with this memory.
+// Returns the last error of a thread on an operating system, with this memory.
 fn error_on<'a>(
+    os: Os,
+    cpu: Cpu,
+    memory: &UnifiedMemoryList<'a>,
+    names: &CodeNames<'_>,
+    thread: &MinidumpThread<'a>,
+) -> Option<CrashReason>
+    ensures { result ≡ error_on os cpu names.now (unified_list memory.now) (thread_of thread.now) }
+{
+    match os {
+        Os::Windows => error_by(cpu, memory, names, thread),
+        _ => None,
+    }
+}
+
+// Returns the last error of a thread of Windows by the width of a pointer, with this memory.
+fn error_by<'a>(
     cpu: Cpu,
     memory: &UnifiedMemoryList<'a>,
     names: &CodeNames<'_>,

@@ -80,8 +80,8 @@ pub struct CrashThread {
     pub is_stack_outside: bool,
     /// What is found in its stack, or `None` without system information or a context.
     pub walk: Option<CrashWalk>,
-    /// Its last error in words, as Windows keeps it, or `None` without system information, or if
-    /// the memory lacks it: [`MinidumpThread::last_error`].
+    /// Its last error in words, which Windows alone keeps, or `None` on another system or without
+    /// system information, or if the memory lacks it: [`MinidumpThread::last_error`].
     pub last_error: Option<String>,
 }
 

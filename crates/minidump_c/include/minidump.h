@@ -220,8 +220,8 @@ struct minidump_facts {
     size_t stack_of;        /* the index of the last thread whose stack, as the dump's list has it, contains it */
     size_t below_stack;     /* the index of the last thread whose stack begins above it, by at most 4,096 bytes */
     uint32_t memory_state;  /* enum minidump_state, of the memory that contains it */
-    uint8_t has_address;    /* 0 where no exception counts, without a system, for a signal that a process sent, and for one of
-                             * Linux's kernel that has no address */
+    uint8_t has_address;    /* 0 where no exception counts, without a system, for a signal that a process sent, and on Linux for
+                             * one at 0 that is no fault, or the kernel's own without an address */
     uint8_t has_null_offset;
     uint8_t is_canonical; /* 0 for an address of x86-64 whose bits 47 to 63 differ, and where has_address is 0; else 1 */
     uint8_t has_module;
@@ -294,7 +294,7 @@ struct minidump_thread {
     uint64_t stack_base;
     uint64_t stack_size; /* 0 for none */
     struct minidump_span name;
-    struct minidump_span last_error; /* in words, as Windows keeps it */
+    struct minidump_span last_error; /* in words, which Windows alone keeps */
     size_t frame_count;              /* how many frames it has, without candidates */
     size_t short_size;               /* how many bytes its context has, where its writer cut it, else 0 */
     size_t whole_size;               /* how many a whole one has, where it is cut, else 0 */

@@ -1,5 +1,6 @@
 mod BelongLemmas
 mod FormLemmas
+mod GreatestLemmas
 mod LimitLemmas
 mod NumberLemmas
 mod StateLemmas

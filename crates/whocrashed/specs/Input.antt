@@ -17,17 +17,18 @@ pub data Asked : Type 0 where
   File : (path : List ℕ) → Asked
   Malformed : (path : List ℕ) → Asked
 
+-- the dump on standard input, and that in the file of a path
+abbrev pub on_input : Asked
+on_input = Input
+
+abbrev pub in_file : List ℕ → Asked
+in_file path = File path
+
 -- the same of a `Dump`
 abbrev pub asked_of : Dump → Asked
 asked_of dump.Input = Input
 asked_of (dump.File path) = File path.now
 asked_of (dump.Malformed path) = Malformed path.now
-
--- its path is no text
-abbrev pub is_malformed : Asked → Bool
-is_malformed Input = false
-is_malformed (File path) = false
-is_malformed (Malformed path) = true
 
 -- what an argument asks for: `-` is standard input
 abbrev pub by_argument : List ℕ → Asked

@@ -1,5 +1,6 @@
--- The status of the program: by what was read at a path, and by arguments that give no options.
-use Rattle.std.specs.Prelude.{ℕ, Option, Some, None, Result, Ok, Err}
+-- The status of the program: by what was read at a path, of a run, and by arguments that give no
+-- options.
+use Rattle.std.specs.Prelude.{◌≡◌, ◌⊎◌, ℕ, List, [], ◌∷◌, max, Option, Some, None, Result, Ok, Err}
 use Rattle.std.specs.Global.{Vec}
 use Rattle.std.specs.declared.io.ErrorKind.{ErrorKind as IoKind}
 use Rattle.std.specs.declared.io.ErrorKind.TheVariants as cause
@@ -7,6 +8,7 @@ use Rattle.clap.specs.declared.error.kind.ErrorKind.{ErrorKind}
 use Rattle.clap.specs.declared.error.kind.ErrorKind.TheVariants as kind
 use Rattle.minidump.specs.Below.Reasons.Names.{Lists}
 use Rattle.crash.specs.Crash.{crash_in, status_of}
+use Rattle.whocrashed.specs.Input.{Asked, File, Input, Malformed}
 
 -- the status of the crash that the bytes hold, with the names of codes of these lists and at most so
 -- many candidates a thread; 1 where the file has more bytes than the limit, or can't be read
@@ -14,6 +16,30 @@ unfoldable pub status_read : {E : Type 0} → Lists → ℕ → Result (Option (
 status_read names scan (Ok (Some bytes)) = status_of (crash_in bytes.items names scan)
 status_read names scan (Ok None) = 1
 status_read names scan (Err error) = 1
+
+-- a status is that of what reading a dump may return
+abbrev pub HasRead : {E : Type 0} → (Asked → Result (Option (Vec ℕ)) E → Type 0) → Lists → ℕ → Asked
+    → ℕ → Type 0
+HasRead {E} reads names scan asked status = (read : Result (Option (Vec ℕ)) E) × reads asked read
+    × (status ≡ status_read names scan read)
+
+-- a dump that was asked for has a status: that of what reading it returns, or 1 where its path is no text
+abbrev pub HasStatus : {E : Type 0} → (Asked → Result (Option (Vec ℕ)) E → Type 0) → Lists → ℕ → Asked
+    → ℕ → Type 0
+HasStatus reads names scan Input status = HasRead reads names scan Input status
+HasStatus reads names scan (File path) status = HasRead reads names scan (File path) status
+HasStatus reads names scan (Malformed path) status = status ≡ 1
+
+-- it may have that one, or 1 where memory ran out
+abbrev pub MayHave : {E : Type 0} → (Asked → Result (Option (Vec ℕ)) E → Type 0) → Lists → ℕ → Asked
+    → ℕ → Type 0
+MayHave reads names scan asked status = HasStatus reads names scan asked status ⊎ (status ≡ 1)
+
+-- a status is the greatest of those of dumps, each one that its dump may have, and of the first
+unfoldable pub IsGreatest : (Asked → ℕ → Type 0) → ℕ → List Asked → ℕ → Type 0
+IsGreatest may first [] status = status ≡ first
+IsGreatest may first (asked ∷ rest) status = (one other : ℕ) × may asked one
+    × IsGreatest may first rest other × (status ≡ max one other)
 
 -- the status where the arguments can't be had for an error of this kind: 1 where memory ran out, and
 -- else 2, since one isn't UTF-8

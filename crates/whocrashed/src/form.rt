@@ -3,7 +3,7 @@ ghost use Rattle.std.specs.Option.{option_copied, option_map};
 ghost use Rattle.std.specs.Str.{IsUtf8};
 ghost use Rattle.crash.specs.Crash.{crash_of};
 ghost use Rattle.crash_html.specs.Page.{page_with};
-ghost use Rattle.crash_symbols.specs.Backtraces.{backtraces_in, backtraces_of};
+ghost use Rattle.crash_symbols.specs.Backtraces.{backtraces_of};
 ghost use Rattle.crash_symbols.specs.Shown.{symbolized_of};
 ghost use Rattle.crash_symbols.specs.Symbols.{known_of};
 ghost use Rattle.whocrashed.specs.Form.{IsByFiles, form_in, shown_with};
@@ -58,30 +58,15 @@ impl Reporter<'_, '_> {
         let modules = crash.modules.loaded.as_slice();
         let mut symbols = unknown(alloc, modules.len())?;
         for _ in 0..ROUNDS {
-            let backtraces = self.backtraces(crash, &symbols)?;
+            let backtraces = Backtraces::find(alloc, crash, &symbols, self.scan)?;
             let wanted = backtraces.wanted(alloc, crash, &symbols)?;
             if wanted.is_empty() {
                 return self.form_with(path, crash, &symbols, &backtraces);
             }
             cache.find(modules, &wanted, &mut symbols);
         }
-        let backtraces = self.backtraces(crash, &symbols)?;
+        let backtraces = Backtraces::find(alloc, crash, &symbols, self.scan)?;
         self.form_with(path, crash, &symbols, &backtraces)
-    }
-
-    // Finds the backtraces of a crash.
-    fn backtraces<'l>(
-        &self,
-        crash: &Crash<'_>,
-        symbols: &Symbols<'l>,
-    ) -> Result<Backtraces<'l>, AllocError>
-        ensures { IfOk result (λ backtraces. backtraces_of backtraces
-            ≡ backtraces_in (crash_of crash.now) (known_of symbols.now) self.now.scan) }
-    {
-        match Backtraces::find(self.rt.alloc(), crash, symbols, self.scan) {
-            Ok(backtraces) => Ok(backtraces),
-            Err(_) => Err(AllocError),
-        }
     }
 
     // Makes the form of a crash by these symbols and the backtraces that they give.

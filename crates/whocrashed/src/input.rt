@@ -107,6 +107,48 @@ fn separator_of(list: &[u8]) -> u8
     if list.contains(&0) { 0 } else { b'\n' }
 }
 
+/// Reads dumps, or returns `None` if one has more bytes than are read.
+pub(crate) trait ReadDumps {
+    ghost use Rattle.std.specs.Global.{Vec};
+    ghost use Rattle.std.specs.Prelude.{ℕ, Option, Result};
+    ghost use Rattle.std.specs.declared.io.Error.{Error};
+    ghost use Rattle.whocrashed.specs.Input.{Asked, in_file, on_input};
+
+    // what reading a dump may return
+    ghost reads: { Self → Asked → Result (Option (Vec ℕ)) Error → Type 0 };
+
+    /// Reads the dump in the file of a path.
+    fn read_file(&self, path: &str) -> io::Result<Option<Vec<u8>>>
+        ensures { reads self.now (in_file path.now) result };
+
+    /// Reads the dump on standard input.
+    fn read_input(&self) -> io::Result<Option<Vec<u8>>>
+        ensures { reads self.now on_input result };
+}
+
+/// The files of the system, and standard input.
+#[derive(Clone, Copy)]
+pub(crate) struct Files<'l> {
+    pub(crate) rt: &'l HostRuntime,
+    // the most bytes of a dump
+    pub(crate) limit: usize,
+}
+
+impl ReadDumps for Files<'_> {
+    ghost use Rattle.std.specs.Prelude.{⊤};
+
+    // the contracts of files don't say which bytes a path has
+    ghost reads = { λ _ _ _. ⊤ };
+
+    fn read_file(&self, path: &str) -> io::Result<Option<Vec<u8>>> {
+        read_file(self.rt, path, self.limit)
+    }
+
+    fn read_input(&self) -> io::Result<Option<Vec<u8>>> {
+        read_input(self.rt, self.limit)
+    }
+}
+
 /// Reads a file, or returns `None` if it has more bytes than the limit.
 pub(crate) fn read_file(rt: &HostRuntime, path: &str, limit: usize) -> io::Result<Option<Vec<u8>>> {
     read_to_limit(rt.alloc(), File::open(rt, path)?, limit)

@@ -269,15 +269,16 @@ fn arg_of<'w>(
     help: &'static str,
 ) -> Result<Arg<'w>, AllocError> {
     let arg = Arg::new(alloc, name).long(name).help(help);
-    Ok(match takes {
-        Takes::Nothing => arg.action(ArgAction::SetTrue),
-        Takes::NothingBeside(names) => arg.action(ArgAction::SetTrue).conflicts_with_all(*names)?,
-        Takes::Paths(value) => arg.value_name(*value).action(ArgAction::Append),
-        Takes::Number(value, default) => arg
-            .value_name(*value)
-            .value_parser(value_parser!(usize))
-            .default_value(*default),
-    })
+    match takes {
+        Takes::Nothing => Ok(arg.action(ArgAction::SetTrue)),
+        Takes::NothingBeside(names) => arg.action(ArgAction::SetTrue).conflicts_with_all(*names),
+        Takes::Paths(value) => Ok(arg.value_name(*value).action(ArgAction::Append)),
+        Takes::Number(value, default) => Ok(
+            arg.value_name(*value)
+                .value_parser(value_parser!(usize))
+                .default_value(*default),
+        ),
+    }
 }
 
 // Makes the argument.

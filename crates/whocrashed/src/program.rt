@@ -1,10 +1,12 @@
-ghost use Rattle.std.specs.Prelude.{◌≡◌, ◌<◌, ◌≤◌, ◌==◌, ◌&&◌, IfOk, length, not};
+ghost use Rattle.std.specs.Prelude.{◌≡◌, ◌<◌, ◌≤◌, ◌==◌, ◌&&◌, ◌++◌, ℕ, List, IfOk, OnErr, OnOk};
+ghost use Rattle.std.specs.Prelude.{length, map, not, take};
 ghost use Rattle.std.specs.IoError.{error_kind};
 ghost use Rattle.clap.specs.Words.{kind_of};
-ghost use Rattle.whocrashed.specs.Status.{status_of_kind, status_without};
+ghost use Rattle.whocrashed.specs.Input.{asked_in, asked_of, by_argument};
+ghost use Rattle.whocrashed.specs.Status.{IsGreatest, MayHave, status_of_kind, status_without};
 
 use crate::complain::{complain, complain_at_end, complain_of, say};
-use crate::input::{dumps_in, read_input};
+use crate::input::{Dump, Files, ReadDumps, dumps_in, read_input};
 use crate::names::names_text;
 use crate::options::Options;
 use crate::report::Reporter;
@@ -102,7 +104,11 @@ fn obey(rt: &HostRuntime, options: &Options<'_>) -> io::Result<u8>
         Ok(table) => {
             let lists = table.lists(rt.alloc())?;
             let names = lists.code_names();
-            report_dumps(&reporter_of(rt, options, &names), options)
+            let files = Files {
+                rt,
+                limit: options.limit,
+            };
+            report_dumps(&reporter_of(rt, options, &names), &files, options)
         }
         Err(error) => {
             let words = format!(in rt.alloc(); "{error}")?;
@@ -138,10 +144,17 @@ fn reporter_of<'l, 'n>(
 }
 
 // Reports on the dumps of the arguments, and on those of the list on standard input if there is one.
-// Returns the greatest of their statuses, or 1 if the list can't be read. A closed pipe ends the run:
-// then those of the dumps before it count.
-fn report_dumps(reporter: &Reporter<'_, '_>, options: &Options<'_>) -> io::Result<u8>
-    ensures { IfOk result (λ status. status < 2) }
+// Returns the greatest of their statuses, and of 1 if the list can't be read. A closed pipe ends the
+// run: then those of the dumps before it count.
+fn report_dumps<S: ReadDumps>(
+    reporter: &Reporter<'_, '_>,
+    source: &S,
+    options: &Options<'_>,
+) -> io::Result<u8>
+    ensures greatest { IfOk result (λ status. (list : List ℕ) × (first count : ℕ)
+        × IsGreatest (MayHave (S.reads source.now) reporter.now.names.now reporter.now.scan) first
+        (take count (map (λ a. by_argument a.now) options.now.dumps.items ++ asked_in list)) status) }
+    ensures bound { IfOk result (λ status. status < 2) }
 {
     let alloc = reporter.rt.alloc();
     let list = if options.are_listed {
@@ -149,28 +162,58 @@ fn report_dumps(reporter: &Reporter<'_, '_>, options: &Options<'_>) -> io::Resul
     } else {
         Some(Vec::new(alloc))
     };
+    let mut worst = if list.is_some() { 0 } else { 1 };
     let dumps = dumps_in(
         alloc,
         options.dumps.as_slice(),
         list.as_deref().unwrap_or(&[]),
     )?;
+    match report_each(reporter, source, dumps.as_slice(), options, &mut worst) {
+        Ok(()) => Ok(worst),
+        Err(error) if error.kind() == io::ErrorKind::BrokenPipe => Ok(worst),
+        Err(error) => Err(error),
+    }
+}
+
+// Reports on each of dumps, which `source` reads. Running out of memory for one is a line, and its
+// status 1. Makes `worst` the greatest of their statuses and of what it was; after a failure of the
+// output of those of the dumps before.
+fn report_each<S: ReadDumps>(
+    reporter: &Reporter<'_, '_>,
+    source: &S,
+    dumps: &[Dump<'_>],
+    options: &Options<'_>,
+    worst: &mut u8,
+) -> io::Result<()>
+    requires { worst.old < 2 }
+    ensures bound { worst.new < 2 }
+    ensures all { OnOk result (IsGreatest
+        (MayHave (S.reads source.now) reporter.now.names.now reporter.now.scan) worst.old
+        (map asked_of dumps.now) worst.new) }
+    ensures before { OnErr result ((count : ℕ) × IsGreatest
+        (MayHave (S.reads source.now) reporter.now.names.now reporter.now.scan) worst.old
+        (take count (map asked_of dumps.now)) worst.new) }
+{
     let mut cache = SymbolCache::new(
         reporter.rt,
         options.symbols.as_slice(),
         options.symbols_limit,
     );
-    let mut worst = if list.is_some() { 0 } else { 1 };
     for (i, dump) in dumps.iter().enumerate() {
-        match reporter.report(*dump, &mut cache) {
-            Ok(status) => worst = status.max(worst),
-            Err(error) if error.kind() == io::ErrorKind::BrokenPipe => return Ok(worst),
+        let status = match reporter.report(source, *dump, &mut cache) {
+            Ok(status) => status,
+            Err(error) if error.kind() == io::ErrorKind::OutOfMemory => {
+                reporter.complain_of_memory(*dump, &error)?;
+                1
+            }
             Err(error) => return Err(error),
-        }
+        };
+        *worst = status.max(*worst);
         if options.shows_progress {
             show_progress(reporter.rt, i, dumps.len());
         }
     }
-    Ok(worst)
+    Ok(())
 }
 
 // Reads the list of paths on standard input. Returns `None` if it can't be read, which it says.

@@ -1,12 +1,12 @@
-ghost use Rattle.std.specs.Prelude.{◌≡◌, ◌≢◌, ◌<◌, ◌⊎◌, ◌++◌, [], ◌∷◌, IfOk, IsOk, true};
+ghost use Rattle.std.specs.Prelude.{◌≡◌, ◌≢◌, ◌<◌, ◌++◌, [], ◌∷◌, IfOk, IsOk};
 ghost use Rattle.crash.specs.Crash.{crash_in, status_of};
 ghost use Rattle.crash_json.specs.Report.{error_text};
-ghost use Rattle.whocrashed.specs.Input.{asked_of, is_malformed};
-ghost use Rattle.whocrashed.specs.Status.{status_read};
+ghost use Rattle.whocrashed.specs.Input.{asked_of};
+ghost use Rattle.whocrashed.specs.Status.{HasStatus, status_read};
 
 use crate::complain::{complain, complain_of, say};
 use crate::form::end_line;
-use crate::input::{Dump, read_file, read_input};
+use crate::input::{Dump, ReadDumps};
 use crate::options::Form;
 use crate::symbols::SymbolCache;
 use crash::{Crash, status_of};
@@ -33,40 +33,43 @@ pub(crate) struct Reporter<'l, 'n> {
 }
 
 impl Reporter<'_, '_> {
-    /// Reports on a dump, and returns the status: that of the crash of its bytes, or 1 if it can't be
-    /// read or is too large. Running out of memory is a line, and ends nothing. A failure of the
-    /// output is an error.
-    pub(crate) fn report(&self, dump: Dump<'_>, cache: &mut SymbolCache<'_>) -> io::Result<u8>
+    /// Reports on a dump, which `source` reads, and returns the status: that of the crash of its
+    /// bytes, or 1 if it can't be read or is too large, or if its path isn't UTF-8. Running out of
+    /// memory is an error, and so is a failure of the output.
+    pub(crate) fn report<S: ReadDumps>(
+        &self,
+        source: &S,
+        dump: Dump<'_>,
+        cache: &mut SymbolCache<'_>,
+    ) -> io::Result<u8>
+        ensures status { IfOk result (HasStatus (S.reads source.now) self.now.names.now self.now.scan
+            (asked_of dump.entry)) }
         ensures bound { IfOk result (λ status. status < 2) }
-        ensures malformed { is_malformed (asked_of dump.entry) ≡ true
-            → IfOk result (λ status. status ≡ 1) }
     {
         match dump {
-            Dump::Input => self.report_read("-", read_input(self.rt, self.limit), cache),
-            Dump::File(path) => self.report_read(path, read_file(self.rt, path, self.limit), cache),
+            Dump::Input => self.report_file("-", source.read_input(), cache),
+            Dump::File(path) => self.report_file(path, source.read_file(path), cache),
             Dump::Malformed(path) => self.report_malformed(path),
         }
     }
 
-    // Reports on what was read at a path, and returns the status: that of what was read, or 1 if memory
-    // ran out, which is a line.
-    fn report_read(
-        &self,
-        path: &str,
-        read: io::Result<Option<Vec<u8>>>,
-        cache: &mut SymbolCache<'_>,
-    ) -> io::Result<u8>
-        ensures cases { IfOk result (λ status.
-            (status ≡ status_read self.now.names.now self.now.scan read) ⊎ (status ≡ 1)) }
-        ensures bound { IfOk result (λ status. status < 2) }
-    {
-        match self.report_file(path, read, cache) {
-            Ok(status) => Ok(status),
-            Err(error) if error.kind() == io::ErrorKind::OutOfMemory => {
-                self.complain_of_memory(path, &error)?;
-                Ok(1)
-            }
-            Err(error) => Err(error),
+    /// Prints that memory ran out at a dump, or that alone if there is none for its path.
+    pub(crate) fn complain_of_memory(&self, dump: Dump<'_>, error: &io::Error) -> io::Result<()> {
+        match dump {
+            Dump::Input => self.complain_at("-", error),
+            Dump::File(path) => self.complain_at(path, error),
+            Dump::Malformed(_) => self.print_no_memory(),
+        }
+    }
+
+    // Does so at the dump of a path.
+    fn complain_at(&self, path: &str, error: &io::Error) -> io::Result<()> {
+        if self.form == Form::Json {
+            return self.print_error(path, Error::OutOfMemory.name());
+        }
+        match complain_of(self.rt, path, error) {
+            Ok(()) => Ok(()),
+            Err(_) => self.print_no_memory(),
         }
     }
 
@@ -86,17 +89,6 @@ impl Reporter<'_, '_> {
             Ok(Some(bytes)) => self.report_bytes(path, &bytes, cache),
             Ok(None) => self.report_large(path),
             Err(error) => self.report_unread(path, &error),
-        }
-    }
-
-    // Prints that memory ran out at a dump, or that alone if there is none for its path.
-    fn complain_of_memory(&self, path: &str, error: &io::Error) -> io::Result<()> {
-        if self.form == Form::Json {
-            return self.print_error(path, Error::OutOfMemory.name());
-        }
-        match complain_of(self.rt, path, error) {
-            Ok(()) => Ok(()),
-            Err(_) => self.print_no_memory(),
         }
     }
 
@@ -156,22 +148,8 @@ impl Reporter<'_, '_> {
         }
     }
 
-    // Reports that a path isn't UTF-8. Running out of memory is a line, too.
-    fn report_malformed(&self, path: &[u8]) -> io::Result<u8>
-        ensures { IfOk result (λ status. status ≡ 1) }
-    {
-        match self.report_lossy(path) {
-            Ok(status) => Ok(status),
-            Err(error) if error.kind() == io::ErrorKind::OutOfMemory => {
-                self.print_no_memory()?;
-                Ok(1)
-            }
-            Err(error) => Err(error),
-        }
-    }
-
     // Reports that a path isn't UTF-8. It is printed with U+FFFD for what isn't.
-    fn report_lossy(&self, path: &[u8]) -> io::Result<u8>
+    fn report_malformed(&self, path: &[u8]) -> io::Result<u8>
         ensures { IfOk result (λ status. status ≡ 1) }
     {
         let path = String::from_utf8_lossy(self.rt.alloc(), path)?;

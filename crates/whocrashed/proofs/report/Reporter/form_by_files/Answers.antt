@@ -15,8 +15,8 @@ loop-init c = record {
 
 pub loop-preserved : goal.loop-preserved
 loop-preserved c =
-    let found = rw c.as_slice-modules.ensures.value at c.find.ensures.belong in
-    record { belong = found c.loop.invariant.belong; loaded = c.find.ensures.loaded c.loop.invariant.loaded }
+    let found = rw c.as_slice-modules.ensures.value at c.find-in-loop.ensures.belong in
+    record { belong = found c.loop.invariant.belong; loaded = c.find-in-loop.ensures.loaded c.loop.invariant.loaded }
 
 pub returns-then-is_empty : goal.returns-then-is_empty
 returns-then-is_empty c =

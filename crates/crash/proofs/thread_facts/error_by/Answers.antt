@@ -2,7 +2,7 @@
 use Rattle.minidump.specs.Below.MemoryLists.Unified.{unified_list}
 use Rattle.minidump.specs.Thread.{last_error_address}
 use Rattle.crash.proofs.ThreadLemmas.{is_error}
-use Rattle.crash.proofs.thread_facts.error_on.Goals as goal
+use Rattle.crash.proofs.thread_facts.error_by.Goals as goal
 
 pub returns : goal.returns
 returns c =
