@@ -1,7 +1,7 @@
 -- The greatest of statuses, with one more.
-use Rattle.std.proofs.Common.{◌≡◌, ◌∙◌, ◌++◌, ◌<◌, ◌+◌, ℕ, List, [], ◌∷◌, refl, ap, sym, subst, arith, get_or, le_refl, length, map, max, take}
-use Rattle.std.specs.Prelude.{Result, Ok, Err, OnErr}
-use Rattle.std.proofs.lemmas.List.{map_more, take-map, take_all}
+use Rattle.std.proofs.Common.{◌≡◌, ◌∙◌, ◌++◌, ◌<◌, ◌+◌, ℕ, List, [], ◌∷◌, refl, ap, sym, subst, arith, get_or, length, map, max, take, ◌⊎◌}
+use Rattle.std.specs.Prelude.{Result, Ok, Err, OnErr, OnOk}
+use Rattle.std.proofs.lemmas.List.{map_more, take-map}
 use Rattle.whocrashed.specs.Input.{Asked}
 use Rattle.whocrashed.specs.Status.{IsGreatest}
 
@@ -43,13 +43,9 @@ module _ (may : Asked → ℕ → Type 0) (first : ℕ) where
   of_failed value xs i n (Ok done) given = cc
   of_failed value xs i n (Err error) given = so_far value xs i n given
 
-  -- of some dumps, as they were asked for
-  pub of_some : (dumps asked : List Asked) (n : ℕ) → dumps ≡ asked → ((count : ℕ) × IsGreatest may first (take count dumps) n)
-      → (begin count : ℕ) × IsGreatest may begin (take count asked) n
-  of_some dumps asked n same given = (first, given.0, subst (λ l. IsGreatest may first (take given.0 l) n) same given.1)
-
-  -- of all of them
-  pub of_all : (dumps asked : List Asked) (n : ℕ) → dumps ≡ asked → IsGreatest may first dumps n
-      → (begin count : ℕ) × IsGreatest may begin (take count asked) n
-  of_all dumps asked n same given =
-      of_some dumps asked n same (length dumps, subst (λ l. IsGreatest may first l n) (sym (take_all (length dumps) dumps (le_refl (length dumps)))) given)
+  -- of all of them, as they were asked for
+  pub of_all : {U E : Type 0} (list : List ℕ) (asked : List ℕ → List Asked) (old : ℕ) (dumps : List Asked) (n : ℕ) (made : Result U E)
+      → (first ≡ old) ⊎ (first ≡ 1) → dumps ≡ asked list → OnOk made (IsGreatest may first dumps n)
+      → OnOk made ((l : List ℕ) × (begin : ℕ) × ((begin ≡ old) ⊎ (begin ≡ 1)) × IsGreatest may begin (asked l) n)
+  of_all list asked old dumps n (Ok done) begins same given = (list, first, begins, subst (λ l. IsGreatest may first l n) same given)
+  of_all list asked old dumps n (Err error) begins same given = cc

@@ -1,4 +1,4 @@
-ghost use Rattle.std.specs.Prelude.{◌≡◌, ◌<◌, ◌≤◌, ◌==◌, ◌&&◌, ◌++◌, ℕ, List, IfOk, OnErr, OnOk};
+ghost use Rattle.std.specs.Prelude.{◌≡◌, ◌<◌, ◌≤◌, ◌==◌, ◌&&◌, ◌++◌, ◌⊎◌, ℕ, List, IfOk, OnErr, OnOk};
 ghost use Rattle.std.specs.Prelude.{length, map, not, take};
 ghost use Rattle.std.specs.IoError.{error_kind};
 ghost use Rattle.clap.specs.Words.{kind_of};
@@ -93,7 +93,8 @@ fn status_of_kind(kind: ErrorKind) -> u8
     }
 }
 
-// Reports on the dumps, with the names that the options ask for. Returns the status.
+// Reports on the dumps, with the names that the options ask for. Returns the status: after a closed
+// pipe that of the dumps before.
 fn obey(rt: &HostRuntime, options: &Options<'_>) -> io::Result<u8>
     ensures { IfOk result (λ status. status < 2) }
 {
@@ -104,11 +105,17 @@ fn obey(rt: &HostRuntime, options: &Options<'_>) -> io::Result<u8>
         Ok(table) => {
             let lists = table.lists(rt.alloc())?;
             let names = lists.code_names();
+            let reporter = reporter_of(rt, options, &names);
             let files = Files {
                 rt,
                 limit: options.limit,
             };
-            report_dumps(&reporter_of(rt, options, &names), &files, options)
+            let mut worst = 0;
+            match report_dumps(&reporter, &files, options, &mut worst) {
+                Ok(()) => Ok(worst),
+                Err(error) if error.kind() == io::ErrorKind::BrokenPipe => Ok(worst),
+                Err(error) => Err(error),
+            }
         }
         Err(error) => {
             let words = format!(in rt.alloc(); "{error}")?;
@@ -144,17 +151,19 @@ fn reporter_of<'l, 'n>(
 }
 
 // Reports on the dumps of the arguments, and on those of the list on standard input if there is one.
-// Returns the greatest of their statuses, and of 1 if the list can't be read. A closed pipe ends the
-// run: then those of the dumps before it count.
+// Makes `worst` the greatest of their statuses and of what it was, or of 1 if the list can't be read;
+// after a failure of the output of those of the dumps before.
 fn report_dumps<S: ReadDumps>(
     reporter: &Reporter<'_, '_>,
     source: &S,
     options: &Options<'_>,
-) -> io::Result<u8>
-    ensures greatest { IfOk result (λ status. (list : List ℕ) × (first count : ℕ)
+    worst: &mut u8,
+) -> io::Result<()>
+    requires { worst.old < 2 }
+    ensures bound { worst.new < 2 }
+    ensures all { OnOk result ((list : List ℕ) × (first : ℕ) × ((first ≡ worst.old) ⊎ (first ≡ 1))
         × IsGreatest (MayHave (S.reads source.now) reporter.now.names.now reporter.now.scan) first
-        (take count (map (λ a. by_argument a.now) options.now.dumps.items ++ asked_in list)) status) }
-    ensures bound { IfOk result (λ status. status < 2) }
+        (map (λ a. by_argument a.now) options.now.dumps.items ++ asked_in list) worst.new) }
 {
     let alloc = reporter.rt.alloc();
     let list = if options.are_listed {
@@ -162,17 +171,15 @@ fn report_dumps<S: ReadDumps>(
     } else {
         Some(Vec::new(alloc))
     };
-    let mut worst = if list.is_some() { 0 } else { 1 };
+    if list.is_none() {
+        *worst = 1;
+    }
     let dumps = dumps_in(
         alloc,
         options.dumps.as_slice(),
         list.as_deref().unwrap_or(&[]),
     )?;
-    match report_each(reporter, source, dumps.as_slice(), options, &mut worst) {
-        Ok(()) => Ok(worst),
-        Err(error) if error.kind() == io::ErrorKind::BrokenPipe => Ok(worst),
-        Err(error) => Err(error),
-    }
+    report_each(reporter, source, dumps.as_slice(), options, worst)
 }
 
 // Reports on each of dumps, which `source` reads. Running out of memory for one is a line, and its
