@@ -5,7 +5,7 @@ ghost use Rattle.breakpad_symbols.specs.AddressWidth.{bits_of, cut, negative};
 use minidump_bytes::{number_32, number_64};
 
 /// The width of an address, and of every value that rules have.
-#[derive(Clone, Copy, Debug, PartialEq, Eq)]
+#[derive(Clone, Copy, PartialEq, Eq)]
 pub enum AddressWidth {
     /// 32 bits.
     Bits32,

@@ -31,7 +31,7 @@ pub trait UnwindState {
 }
 
 // An operator of two values.
-#[derive(Clone, Copy, Debug, PartialEq, Eq)]
+#[derive(Clone, Copy, PartialEq, Eq)]
 pub(crate) enum Operator {
     Add,
     Subtract,

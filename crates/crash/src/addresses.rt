@@ -27,7 +27,7 @@ use minidump::{
 use stack_walk::module_place;
 
 /// What is known of an address.
-#[derive(Clone, Copy, Debug)]
+#[derive(Clone, Copy)]
 pub struct AddressFacts {
     /// The address.
     pub address: u64,
@@ -61,7 +61,7 @@ impl AddressFacts {
 }
 
 /// What is known of the memory that contains an address.
-#[derive(Clone, Copy, Debug, PartialEq, Eq)]
+#[derive(Clone, Copy, PartialEq, Eq)]
 pub struct AddressMemory {
     /// The state.
     pub state: RegionState,
@@ -76,7 +76,7 @@ pub struct AddressMemory {
 }
 
 /// The state of memory.
-#[derive(Clone, Copy, Debug, PartialEq, Eq)]
+#[derive(Clone, Copy, PartialEq, Eq)]
 pub enum RegionState {
     /// Nothing is there: Microsoft's `MEM_FREE`.
     Free,

@@ -36,7 +36,7 @@ pub struct CrashContext {
 }
 
 /// Whose context the registers are of.
-#[derive(Clone, Copy, Debug, PartialEq, Eq)]
+#[derive(Clone, Copy, PartialEq, Eq)]
 pub enum ContextOrigin {
     /// That of the exception, which happened on the thread.
     OfException,
@@ -45,7 +45,7 @@ pub enum ContextOrigin {
 }
 
 /// How much there is of a context that its writer cut after the general registers.
-#[derive(Clone, Copy, Debug, PartialEq, Eq)]
+#[derive(Clone, Copy, PartialEq, Eq)]
 pub struct ShortContext {
     /// How many bytes it has.
     pub size: usize,
@@ -54,7 +54,7 @@ pub struct ShortContext {
 }
 
 /// Why there are no registers in a context.
-#[derive(Clone, Copy, Debug, PartialEq, Eq)]
+#[derive(Clone, Copy, PartialEq, Eq)]
 pub enum ContextProblem {
     /// Its bytes are not in the file.
     Outside,

@@ -15,7 +15,7 @@ use std::alloc::{AllocError, Global};
 /// Something of a dump that is there and can't be read, whether anything else stands in for it or
 /// not: a list of memory that can't be read is damage also where the other list can be, and a stack
 /// outside the file also where a list of memory holds it.
-#[derive(Clone, Copy, Debug)]
+#[derive(Clone, Copy)]
 pub enum Damage {
     /// A stream, by the entry of the directory that decides its type.
     Stream {

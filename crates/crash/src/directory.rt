@@ -30,7 +30,7 @@ pub struct CrashDirectory {
 }
 
 /// A stream, by the entry of the directory that decides it.
-#[derive(Clone, Copy, Debug)]
+#[derive(Clone, Copy)]
 pub struct StreamEntry {
     /// The number of its type.
     pub number: u32,

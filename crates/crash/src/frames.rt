@@ -32,7 +32,7 @@ pub struct CrashWalk {
 }
 
 /// A frame of a stack.
-#[derive(Clone, Copy, Debug)]
+#[derive(Clone, Copy)]
 pub struct CrashFrame {
     /// The address by which it is looked up: the instruction pointer of the context, or else the
     /// address below its return address, which lies in the call. On ARM of 32 bits bit 0 of the return

@@ -47,7 +47,7 @@ pub struct CrashPoint<'a> {
 }
 
 /// A word of a stack.
-#[derive(Clone, Copy, Debug)]
+#[derive(Clone, Copy)]
 pub struct StackWord {
     /// Where it stands.
     pub address: u64,

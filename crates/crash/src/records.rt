@@ -46,7 +46,7 @@ const SI_TKILL: u32 = 0xffff_fffa;
 const SI_KERNEL: u32 = 0x80;
 
 /// How memory was accessed.
-#[derive(Clone, Copy, Debug, PartialEq, Eq)]
+#[derive(Clone, Copy, PartialEq, Eq)]
 pub enum Access {
     /// It was read: 0 in the record.
     Read,
@@ -57,7 +57,7 @@ pub enum Access {
 }
 
 /// The `si_code` of a signal that a process sent.
-#[derive(Clone, Copy, Debug, PartialEq, Eq)]
+#[derive(Clone, Copy, PartialEq, Eq)]
 pub enum SignalCode {
     /// It was sent by `kill`: SI_USER, 0.
     User,
@@ -81,7 +81,7 @@ impl SignalCode {
 }
 
 /// The process that sent a signal.
-#[derive(Clone, Copy, Debug, PartialEq, Eq)]
+#[derive(Clone, Copy, PartialEq, Eq)]
 pub struct Sender {
     /// The `si_code`, which is the flags of the record.
     pub code: SignalCode,

@@ -11,7 +11,7 @@ use minidump::format::MINIDUMP_MEMORY_DESCRIPTOR;
 use minidump::{MinidumpThread, UnifiedMemory, UnifiedMemoryList, laws};
 
 /// A range of addresses.
-#[derive(Clone, Copy, Debug, PartialEq, Eq)]
+#[derive(Clone, Copy, PartialEq, Eq)]
 pub struct StackRange {
     /// The first address, which is the lowest.
     pub base: u64,

@@ -13,7 +13,7 @@ use minidump::{Endian, Error, Minidump, MinidumpModule, Range, Source, Steps};
 use std::alloc::{AllocError, Global};
 
 /// An entry of the list of modules that can't be read, for which the list as a whole can't be.
-#[derive(Clone, Copy, Debug, PartialEq, Eq)]
+#[derive(Clone, Copy, PartialEq, Eq)]
 pub struct UnreadableModule {
     /// Its index among all entries of the list, from 0 on.
     pub index: usize,
@@ -26,7 +26,7 @@ pub struct UnreadableModule {
 }
 
 /// A part of an entry of the list of modules that can't be read.
-#[derive(Clone, Copy, Debug, PartialEq, Eq)]
+#[derive(Clone, Copy, PartialEq, Eq)]
 pub enum ModulePart {
     /// Its name: the bytes are not all in the file, their number is odd, or a surrogate lacks its
     /// partner.

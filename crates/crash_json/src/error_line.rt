@@ -3,7 +3,7 @@ ghost use Rattle.std.specs.Str.{IsUtf8};
 ghost use Rattle.json.specs.Json.{document};
 ghost use Rattle.crash_json.specs.Report.{error_json, error_text};
 
-use crate::tree::{Members, Put, Scalar, ToJson, text_of};
+use crate::tree::{Members, Put, Scalar, ToJson};
 use json::Writer;
 use std::alloc::{AllocError, Global};
 
@@ -16,7 +16,9 @@ pub fn error_json(alloc: Global, path: &str, status: &str) -> Result<Vec<u8>, Al
     ensures compact { IfOk result (λ text. text.items ≡ error_text path.now status.now) }
     ensures utf8 { IfOk result (λ text. IsUtf8 text.items) }
 {
-    text_of(alloc, &FileError { path, status })
+    let mut out = Writer::new(Vec::new(alloc));
+    FileError { path, status }.put(&mut out, alloc)?;
+    Ok(out.into_inner())
 }
 
 // A file that is no minidump.

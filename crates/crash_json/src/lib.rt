@@ -55,13 +55,14 @@ mod tree;
 use crash::Crash;
 use crash_symbols::Symbolized;
 pub use error_line::error_json;
+use json::Writer;
 use minidump::{CodeNames, Error};
 use report::Report;
 use std::alloc::{AllocError, Global};
-use tree::text_of;
+use tree::ToJson;
 
 /// How much of a crash is written.
-#[derive(Clone, Copy, Debug, PartialEq, Eq)]
+#[derive(Clone, Copy, PartialEq, Eq)]
 pub struct JsonLimits {
     /// The most frames of a thread that are written, candidates included. With 0 the registers of
     /// the thread that crashed are left out, too: its first frame has them.
@@ -120,5 +121,7 @@ pub fn json_of<'l>(
         limits: *limits,
         symbols,
     };
-    text_of(alloc, &report)
+    let mut out = Writer::new(Vec::new(alloc));
+    report.put(&mut out, alloc)?;
+    Ok(out.into_inner())
 }

@@ -3,13 +3,10 @@
 //! A type has a JSON value by [`ToJson`], and so has each item of a list; by [`NumberedJson`] an item's
 //! value has its number in it. [`Members`] are the members of an object, whose values are of one type:
 //! it puts the object, or adds them to those that were put.
-ghost use Rattle.std.specs.Prelude.{◌≡◌, ◌≤◌, ℕ, IfOk, Some, map, string_bytes};
+ghost use Rattle.std.specs.Prelude.{◌≡◌, ℕ, IfOk, map, string_bytes};
 ghost use Rattle.std.specs.Option.{option_copied, option_map};
 ghost use Rattle.std.specs.Result.{result_ok};
-ghost use Rattle.std.specs.Str.{IsUtf8};
-ghost use Rattle.json.specs.Json.{Json, document, max_depth, string};
-ghost use Rattle.json.specs.Print.{print};
-ghost use Rattle.json.specs.Tree.{depth, json_tokens};
+ghost use Rattle.json.specs.Json.{Json, string};
 ghost use Rattle.crash_json.specs.Tree.{Adds, Puts, array_of, hex_text, member_of};
 ghost use Rattle.crash_json.specs.Tree.{numbered_array_of, object_of, or_null};
 
@@ -130,18 +127,6 @@ fn hex_text(alloc: Global, number: u64) -> Result<String, AllocError>
     ensures { IfOk result (λ text. string_bytes text ≡ hex_text number) }
 {
     format_pieces(alloc, &[Piece::Hex(number)])
-}
-
-/// Makes the JSON text of a value, compact, without line feeds between its tokens.
-pub(crate) fn text_of<T: ToJson>(alloc: Global, value: &T) -> Result<Vec<u8>, AllocError>
-    ensures text { IfOk result (λ text. text.items ≡ print (json_tokens (T.json value.now))) }
-    ensures reads_back { IfOk result (λ text. depth (T.json value.now) ≤ max_depth
-        → document text.items ≡ Some (T.json value.now)) }
-    ensures utf8 { IfOk result (λ text. IsUtf8 text.items) }
-{
-    let mut out = Writer::new(Vec::new(alloc));
-    value.put(&mut out, alloc)?;
-    Ok(out.into_inner())
 }
 
 // ---- lists

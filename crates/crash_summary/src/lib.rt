@@ -66,7 +66,7 @@ pub struct ModuleHit {
 }
 
 /// A region of memory, by its addresses.
-#[derive(Clone, Copy, Debug, PartialEq, Eq)]
+#[derive(Clone, Copy, PartialEq, Eq)]
 pub struct StackHit {
     /// The address of the first byte.
     pub base: u64,

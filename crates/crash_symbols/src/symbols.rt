@@ -8,7 +8,7 @@ use breakpad_symbols::SymbolFile;
 use std::alloc::Global;
 
 /// What is known of the symbol file of a module.
-#[derive(Clone, Copy, Debug, PartialEq, Eq)]
+#[derive(Clone, Copy, PartialEq, Eq)]
 pub enum SymbolState {
     /// Nothing: it wasn't looked for.
     Unwanted,

@@ -1,5 +1,6 @@
 -- Lines have no control characters but their ends, and one more line of a list that is gone through.
 use Rattle.std.proofs.Common.{◌≡◌, ◌∙◌, ℕ, true, List, [], ◌∷◌, ◌++◌, ap, append-nil, append_assoc, refl, sym}
+use Rattle.std.proofs.lemmas.List.{length-map, map-id}
 use Rattle.std.proofs.lemmas.List.Concat.{flat_map-cons}
 use Rattle.std.proofs.lemmas.List.Folds.{list_all-append}
 use Rattle.std.specs.List.{flat_map, list_all}
@@ -28,3 +29,6 @@ next_line now new left rest line is added whole =
 -- none is left
 pub last_line : (now : List ℕ) (left : List (List ℕ)) {all : List ℕ} → left ≡ [] → now ++ flat_map line_of left ≡ all → now ≡ all
 last_line now left none whole = sym (append-nil now) ∙ ap (λ ls. now ++ flat_map line_of ls) (sym none) ∙ whole
+
+-- a list that is its own values, and as many values as items
+pub ruleset values = (map-id, length-map)

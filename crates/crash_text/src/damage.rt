@@ -1,10 +1,10 @@
 ghost use Rattle.std.specs.Prelude.{◌≡◌, [], ◌∷◌, IfOk, string_bytes};
 ghost use Rattle.crash.specs.Crash.{crash_of};
-ghost use Rattle.crash_text.specs.Damage.{damage_lines, damage_row, entries_lines, part_words};
-ghost use Rattle.crash_text.specs.Damage.{stream_row, stream_text, unreadable_line};
+ghost use Rattle.crash_text.specs.Damage.{damage_lines, entries_lines, part_words};
+ghost use Rattle.crash_text.specs.Damage.{stream_row, stream_text};
 ghost use Rattle.crash_text.specs.Lines.{Adds};
 
-use crate::lines::{Added, push_line};
+use crate::lines::{Added, Line, push_each, push_line};
 use crate::words::push_id;
 use crash::{Crash, Damage, ModulePart, UnreadableModule};
 use minidump::format::MINIDUMP_STREAM_TYPE;
@@ -13,41 +13,48 @@ use minidump::text::format_pieces;
 use std::alloc::{AllocError, Global};
 
 // Appends the lines of what is there and can't be read.
+#[tactic(auto, using(crate::proofs::LineLemmas::values))]
 pub(crate) fn push_damage(out: &mut String, crash: &Crash<'_>) -> Added
     ensures { Adds out.old out.new (damage_lines (crash_of crash.now)) result }
 {
-    for item in crash.damage.as_slice() {
-        push_item(out, item)?;
-    }
-    for module in crash.modules.unreadable.as_slice() {
-        push_module(out, module)?;
-    }
+    push_each(out, crash.damage.as_slice())?;
+    push_each(out, crash.modules.unreadable.as_slice())?;
     push_entries(out, crash.directory.entries_outside)
 }
 
-// Appends the line of something that can't be read.
-fn push_item(out: &mut String, damage: &Damage) -> Added
-    ensures { Adds out.old out.new (damage_row damage.now ∷ []) result }
-{
-    match *damage {
-        Damage::Stream { number, error } => {
-            let stream = stream_text(*out.allocator(), number)?;
-            push_stream(out, stream.as_str(), error.name())
+impl Line for Damage {
+    ghost use Rattle.crash.specs.declared.damage.Damage.{Damage};
+    ghost use Rattle.crash_text.specs.Damage.{damage_row};
+
+    ghost Value = { Damage };
+
+    ghost value_of = { λ d. d };
+
+    ghost line = { damage_row };
+
+    fn push(&self, out: &mut String) -> Added {
+        match *self {
+            Damage::Stream { number, error } => {
+                let stream = stream_text(*out.allocator(), number)?;
+                push_stream(out, stream.as_str(), error.name())
+            }
+            Damage::Exception { error } => push_stream(
+                out,
+                "an exception before the last",
+                error.name(),
+            ),
+            Damage::ExceptionContext { thread } => push_id(
+                out,
+                "outside the file: the context of the exception on thread ",
+                thread,
+            ),
+            Damage::ThreadContext { thread } => {
+                push_id(out, "outside the file: the context of thread ", thread)
+            }
+            Damage::Stack { thread } => {
+                push_id(out, "outside the file: the stack of thread ", thread)
+            }
         }
-        Damage::Exception { error } => push_stream(
-            out,
-            "an exception before the last",
-            error.name(),
-        ),
-        Damage::ExceptionContext { thread } => push_id(
-            out,
-            "outside the file: the context of the exception on thread ",
-            thread,
-        ),
-        Damage::ThreadContext { thread } => {
-            push_id(out, "outside the file: the context of thread ", thread)
-        }
-        Damage::Stack { thread } => push_id(out, "outside the file: the stack of thread ", thread),
     }
 }
 
@@ -69,15 +76,24 @@ fn part_words(part: ModulePart) -> &'static str
     }
 }
 
-#[rattlefmt::skip]
-#[tactic(auto, unfolding(crate::specs::Damage::unreadable_line))]
-fn push_module(out: &mut String, found: &UnreadableModule) -> Added
-    ensures { Adds out.old out.new (unreadable_line found.now ∷ []) result }
-{
-    push_line(out, &[
-        Words("can't be read: "), Words(part_words(found.part)), Decimal(found.index as u64),
-        Words(" at "), Hex(found.base), Words(", "), Hex(found.size as u64), Words(" bytes"),
-    ])
+impl Line for UnreadableModule {
+    ghost use Rattle.crash.specs.declared.unreadable_modules.UnreadableModule.{UnreadableModule};
+    ghost use Rattle.crash_text.specs.Damage.{unreadable_line};
+
+    ghost Value = { UnreadableModule };
+
+    ghost value_of = { λ m. m };
+
+    ghost line = { unreadable_line };
+
+    #[rattlefmt::skip]
+    #[tactic(auto, unfolding(crate::specs::Damage::unreadable_line))]
+    fn push(&self, out: &mut String) -> Added {
+        push_line(out, &[
+            Words("can't be read: "), Words(part_words(self.part)), Decimal(self.index as u64),
+            Words(" at "), Hex(self.base), Words(", "), Hex(self.size as u64), Words(" bytes"),
+        ])
+    }
 }
 
 // Makes the words for the stream of a type: its name, or its number if it has none.

@@ -1,5 +1,5 @@
 /// How much of a crash its text has.
-#[derive(Clone, Copy, Debug)]
+#[derive(Clone, Copy)]
 pub struct TextLimits {
     /// The most frames of a thread that are printed. The candidates after them count, too, but
     /// inlined calls don't. Of a thread other than the one that crashed only the first frame is

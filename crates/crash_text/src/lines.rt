@@ -1,4 +1,4 @@
-ghost use Rattle.std.specs.Prelude.{◌≡◌, [], ◌∷◌, IfOk, OnErr, string_bytes};
+ghost use Rattle.std.specs.Prelude.{◌≡◌, ℕ, List, [], ◌∷◌, IfOk, OnErr, map, string_bytes};
 ghost use Rattle.std.specs.List.{flat_map};
 ghost use Rattle.minidump.specs.Below.Bytes.Piece.{piece_text};
 ghost use Rattle.crash_text.specs.Lines.{Adds, line_of};
@@ -32,4 +32,31 @@ fn line_of(alloc: Global, text: &str) -> Result<String, AllocError>
     push_escaped(&mut line, text)?;
     line.push('\n')?;
     Ok(line)
+}
+
+// ---- lists
+
+/// What has a line.
+pub(crate) trait Line {
+    // its value
+    ghost Value: { Type 0 };
+
+    ghost value_of: { Self → Value };
+
+    // the line of a value
+    ghost line: { Value → List ℕ };
+
+    /// Appends the line.
+    fn push(&self, out: &mut String) -> Added
+        ensures { Adds out.old out.new (line (value_of self.now) ∷ []) result };
+}
+
+/// Appends the line of each item of a list.
+pub(crate) fn push_each<T: Line>(out: &mut String, items: &[T]) -> Added
+    ensures { Adds out.old out.new (map T.line (map T.value_of items.now)) result }
+{
+    for item in items {
+        item.push(out)?;
+    }
+    Ok(())
 }

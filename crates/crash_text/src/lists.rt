@@ -1,27 +1,21 @@
 ghost use Rattle.std.specs.Prelude.{◌≡◌, [], ◌∷◌, IfOk, codes, map, string_bytes};
-ghost use Rattle.minidump.specs.Below.Bytes.LinuxOsStr.{parts_of};
 ghost use Rattle.minidump.specs.Below.Contexts.Context.{map_ok};
-ghost use Rattle.minidump.specs.Below.MemoryLists.Unified.{unified_list, unified_region};
-ghost use Rattle.minidump.specs.Below.MemoryLists.Unified.{unified_regions};
-ghost use Rattle.minidump.specs.Below.Records.Handles.{handle_of};
+ghost use Rattle.minidump.specs.Below.MemoryLists.Unified.{unified_list, unified_regions};
 ghost use Rattle.minidump.specs.Promise.{handle_data_stream, linux_environ_stream};
 ghost use Rattle.minidump.specs.Promise.{linux_proc_limits_stream, unloaded_module_list_stream};
 ghost use Rattle.crash.specs.HandleKinds.{kind_of};
-ghost use Rattle.crash.specs.Linux.{limit_of};
 ghost use Rattle.crash.specs.Modules.{unloaded_module_of};
 ghost use Rattle.crash_text.specs.Lines.{Adds, if_some};
-ghost use Rattle.crash_text.specs.Lists.{all_handles, entry_line, entry_row, environment_lines};
-ghost use Rattle.crash_text.specs.Lists.{error_words, handle_line, handles_lines, kind_line};
-ghost use Rattle.crash_text.specs.Lists.{limit_line, limits_lines, list_lines, lists_lines};
+ghost use Rattle.crash_text.specs.Lists.{all_handles, entry_row, environment_lines, error_words};
+ghost use Rattle.crash_text.specs.Lists.{handles_lines, limits_lines, list_lines, lists_lines};
 ghost use Rattle.crash_text.specs.Lists.{memory_lines, process_lists_lines, region_line};
-ghost use Rattle.crash_text.specs.Lists.{unloaded_line, unloaded_lines, value_text};
-ghost use Rattle.crash_text.specs.Lists.{variable_line, variable_row};
+ghost use Rattle.crash_text.specs.Lists.{unloaded_lines, value_text, variable_row};
 ghost use Rattle.crash_text.specs.Page.{page_of};
 ghost use Rattle.crash_text.specs.Words.{count_row};
 
 use crate::damage::stream_text;
 use crate::limits::TextLimits;
-use crate::lines::{Added, push_line};
+use crate::lines::{Added, Line, push_each, push_line};
 use crate::modules::{all_modules, end_text, key_text};
 use crate::page::Page;
 use crate::words::{or_empty, push_count, where_some};
@@ -37,14 +31,34 @@ use minidump::{
 };
 use std::alloc::{AllocError, Global};
 
+// Appends the number of items of a list, and their lines if they are asked for.
+#[tactic(auto, using(crate::proofs::LineLemmas::values))]
+fn push_list<T: Line>(out: &mut String, is_asked: bool, what: &str, items: &[T]) -> Added
+    ensures { Adds out.old out.new (list_lines is_asked what.now T.line
+        (map T.value_of items.now)) result }
+{
+    push_count(out, what, items.len())?;
+    if is_asked {
+        push_each(out, items)
+    } else {
+        Ok(())
+    }
+}
+
 // Appends the lists after the modules.
+#[tactic(auto, using(crate::proofs::LineLemmas::values))]
 pub(crate) fn push_lists(out: &mut String, page: Page<'_, '_, '_, '_>) -> Added
     ensures { Adds out.old out.new (lists_lines (page_of page.entry)) result }
 {
     let (limits, space) = (page.limits, &page.crash.contents.space);
     let unloaded = page.crash.modules.unloaded.as_slice();
     push_unloaded(out, limits, unloaded, &space.unloaded)?;
-    push_streams(out, limits, page.crash.directory.entries.as_slice())?;
+    push_list(
+        out,
+        limits.lists,
+        "streams",
+        page.crash.directory.entries.as_slice(),
+    )?;
     push_memory(out, limits, &space.memory, space.memory_errors)?;
     push_maps(out, space.map_count)?;
     push_process_lists(out, page)
@@ -73,56 +87,50 @@ fn push_unloaded(
         (map_ok unloaded_module_list_stream.value list.now)) result }
 {
     match list {
-        Ok(_) => {
-            push_count(out, "unloaded modules", modules.len())?;
-            if all_modules(limits) {
-                for module in modules {
-                    push_unloaded_module(out, module)?;
-                }
-            }
-            Ok(())
-        }
+        Ok(_) => push_list(out, all_modules(limits), "unloaded modules", modules),
         Err(_) => Ok(()),
     }
 }
 
-// Appends the line of a module that was unloaded, with its end.
-#[rattlefmt::skip]
-#[tactic(auto, unfolding(crate::specs::Lists::unloaded_line))]
-fn push_unloaded_module(out: &mut String, module: &UnloadedModule) -> Added
-    ensures { Adds out.old out.new (unloaded_line (unloaded_module_of module.now) ∷ []) result }
-{
-    let alloc = *out.allocator();
-    let end = end_text(alloc, true, module.end)?;
-    let code = key_text(alloc, ", code ", &module.file, &module.code_id)?;
-    push_line(out, &[
-        Words("    "), Hex(module.base), Words(end.as_str()), Words(" "),
-        Words(module.path.as_str()), Words(code.as_str()),
-    ])
-}
+impl Line for UnloadedModule {
+    ghost use Rattle.crash.specs.Modules.{UnloadedModuleValue, unloaded_module_of};
+    ghost use Rattle.crash_text.specs.Lists.{unloaded_line};
 
-// Appends the number of streams, and their lines if lists are asked for.
-fn push_streams(out: &mut String, limits: &TextLimits, entries: &[StreamEntry]) -> Added
-    ensures { Adds out.old out.new
-        (list_lines limits.now.lists (codes "streams") entry_line entries.now) result }
-{
-    push_count(out, "streams", entries.len())?;
-    if limits.lists {
-        for entry in entries {
-            push_stream(out, entry)?;
-        }
+    ghost Value = { UnloadedModuleValue };
+
+    ghost value_of = { unloaded_module_of };
+
+    ghost line = { unloaded_line };
+
+    #[rattlefmt::skip]
+    #[tactic(auto, unfolding(crate::specs::Lists::unloaded_line))]
+    fn push(&self, out: &mut String) -> Added {
+        let alloc = *out.allocator();
+        let end = end_text(alloc, true, self.end)?;
+        let code = key_text(alloc, ", code ", &self.file, &self.code_id)?;
+        push_line(out, &[
+            Words("    "), Hex(self.base), Words(end.as_str()), Words(" "),
+            Words(self.path.as_str()), Words(code.as_str()),
+        ])
     }
-    Ok(())
 }
 
-// Appends the line of a stream.
-fn push_stream(out: &mut String, entry: &StreamEntry) -> Added
-    ensures { Adds out.old out.new (entry_line entry.now ∷ []) result }
-{
-    let alloc = *out.allocator();
-    let name = stream_text(alloc, entry.number)?;
-    let error = error_words(alloc, entry.error)?;
-    push_stream_row(out, entry, name.as_str(), error.as_str())
+impl Line for StreamEntry {
+    ghost use Rattle.crash.specs.declared.directory.StreamEntry.{StreamEntry};
+    ghost use Rattle.crash_text.specs.Lists.{entry_line};
+
+    ghost Value = { StreamEntry };
+
+    ghost value_of = { λ e. e };
+
+    ghost line = { entry_line };
+
+    fn push(&self, out: &mut String) -> Added {
+        let alloc = *out.allocator();
+        let name = stream_text(alloc, self.number)?;
+        let error = error_words(alloc, self.error)?;
+        push_stream_row(out, self, name.as_str(), error.as_str())
+    }
 }
 
 #[rattlefmt::skip]
@@ -176,30 +184,29 @@ fn push_regions(out: &mut String, limits: &TextLimits, memory: &UnifiedMemoryLis
     push_count(out, "memory regions", memory.len())?;
     if limits.lists {
         let regions = regions_of(*out.allocator(), memory)?;
-        push_each_region(out, regions.as_slice())
+        push_each(out, regions.as_slice())
     } else {
         Ok(())
     }
 }
 
-// Appends the lines of regions of memory.
-fn push_each_region(out: &mut String, regions: &[UnifiedMemory<'_, '_>]) -> Added
-    ensures { Adds out.old out.new (map region_line (map unified_region regions.now)) result }
-{
-    for region in regions {
-        push_region(out, region)?;
-    }
-    Ok(())
-}
+impl Line for UnifiedMemory<'_, '_> {
+    ghost use Rattle.minidump.specs.Below.MemoryLists.Unified.{UnifiedRegion, unified_region};
+    ghost use Rattle.crash_text.specs.Lists.{region_line};
 
-#[rattlefmt::skip]
-#[tactic(auto, unfolding(crate::specs::Lists::region_line))]
-fn push_region(out: &mut String, region: &UnifiedMemory<'_, '_>) -> Added
-    ensures { Adds out.old out.new (region_line (unified_region region.now) ∷ []) result }
-{
-    push_line(out, &[
-        Words("    "), Hex(region.base_address()), Words(", "), Hex(region.size()), Words(" bytes"),
-    ])
+    ghost Value = { UnifiedRegion };
+
+    ghost value_of = { unified_region };
+
+    ghost line = { region_line };
+
+    #[rattlefmt::skip]
+    #[tactic(auto, unfolding(crate::specs::Lists::region_line))]
+    fn push(&self, out: &mut String) -> Added {
+        push_line(out, &[
+            Words("    "), Hex(self.base_address()), Words(", "), Hex(self.size()), Words(" bytes"),
+        ])
+    }
 }
 
 // Appends the lists of the process.
@@ -228,28 +235,34 @@ fn push_handles(
         Ok(stream) => {
             let handles = stream.handles.as_slice();
             push_count(out, "handles", handles.len())?;
-            for kind in kinds {
-                push_kind(out, kind)?;
-            }
+            push_each(out, kinds)?;
             if all_handles(limits) {
-                for handle in handles {
-                    push_handle(out, handle)?;
-                }
+                push_each(out, handles)
+            } else {
+                Ok(())
             }
-            Ok(())
         }
         Err(_) => Ok(()),
     }
 }
 
-#[rattlefmt::skip]
-#[tactic(auto, unfolding(crate::specs::Lists::kind_line))]
-fn push_kind(out: &mut String, kind: &HandleKind) -> Added
-    ensures { Adds out.old out.new (kind_line (kind_of kind.now) ∷ []) result }
-{
-    push_line(out, &[
-        Words("    "), Words(kind.type_name.as_str()), Words(" "), Decimal(kind.count as u64),
-    ])
+impl Line for HandleKind {
+    ghost use Rattle.crash.specs.HandleKinds.{KindValue, kind_of};
+    ghost use Rattle.crash_text.specs.Lists.{kind_line};
+
+    ghost Value = { KindValue };
+
+    ghost value_of = { kind_of };
+
+    ghost line = { kind_line };
+
+    #[rattlefmt::skip]
+    #[tactic(auto, unfolding(crate::specs::Lists::kind_line))]
+    fn push(&self, out: &mut String) -> Added {
+        push_line(out, &[
+            Words("    "), Words(self.type_name.as_str()), Words(" "), Decimal(self.count as u64),
+        ])
+    }
 }
 
 // Tells whether all handles are asked for.
@@ -259,18 +272,26 @@ fn all_handles(limits: &TextLimits) -> bool
     limits.lists || limits.handles
 }
 
-// Appends the line of a handle.
-#[rattlefmt::skip]
-#[tactic(auto, unfolding(crate::specs::Lists::handle_line))]
-fn push_handle(out: &mut String, handle: &MinidumpHandleDescriptor) -> Added
-    ensures { Adds out.old out.new (handle_line (handle_of handle.now) ∷ []) result }
-{
-    let value = value_text(*out.allocator(), handle.raw.handle().copied())?;
-    let (kind, name) = (&handle.type_name, &handle.object_name);
-    push_line(out, &[
-        Words("    "), Words(value.as_str()), Words(where_some(" ", kind)), Words(or_empty(kind)),
-        Words(where_some(" \"", name)), Words(or_empty(name)), Words(where_some("\"", name)),
-    ])
+impl Line for MinidumpHandleDescriptor {
+    ghost use Rattle.minidump.specs.Below.Records.Handles.{Handle, handle_of};
+    ghost use Rattle.crash_text.specs.Lists.{handle_line};
+
+    ghost Value = { Handle };
+
+    ghost value_of = { handle_of };
+
+    ghost line = { handle_line };
+
+    #[rattlefmt::skip]
+    #[tactic(auto, unfolding(crate::specs::Lists::handle_line))]
+    fn push(&self, out: &mut String) -> Added {
+        let value = value_text(*out.allocator(), self.raw.handle().copied())?;
+        let (kind, name) = (&self.type_name, &self.object_name);
+        push_line(out, &[
+            Words("    "), Words(value.as_str()), Words(where_some(" ", kind)), Words(or_empty(kind)),
+            Words(where_some(" \"", name)), Words(or_empty(name)), Words(where_some("\"", name)),
+        ])
+    }
 }
 
 // Makes the words for the operating system's value of a handle.
@@ -298,28 +319,31 @@ fn push_limits(
     match found {
         Ok(found) => {
             let items = limits_of(*out.allocator(), found)?;
-            push_count(out, "limits", items.len())?;
-            if limits.lists {
-                for item in items.as_slice() {
-                    push_limit(out, item)?;
-                }
-            }
-            Ok(())
+            push_list(out, limits.lists, "limits", items.as_slice())
         }
         Err(_) => Ok(()),
     }
 }
 
-#[rattlefmt::skip]
-#[tactic(auto, unfolding(crate::specs::Lists::limit_line))]
-fn push_limit(out: &mut String, limit: &ProcessLimit) -> Added
-    ensures { Adds out.old out.new (limit_line (limit_of limit.now) ∷ []) result }
-{
-    push_line(out, &[
-        Words("    "), Words(limit.name.as_str()), Words(" soft "), Words(limit.soft.as_str()),
-        Words(" hard "), Words(limit.hard.as_str()), Words(where_some(" ", &limit.unit)),
-        Words(or_empty(&limit.unit)),
-    ])
+impl Line for ProcessLimit {
+    ghost use Rattle.crash.specs.Linux.{LimitValue, limit_of};
+    ghost use Rattle.crash_text.specs.Lists.{limit_line};
+
+    ghost Value = { LimitValue };
+
+    ghost value_of = { limit_of };
+
+    ghost line = { limit_line };
+
+    #[rattlefmt::skip]
+    #[tactic(auto, unfolding(crate::specs::Lists::limit_line))]
+    fn push(&self, out: &mut String) -> Added {
+        push_line(out, &[
+            Words("    "), Words(self.name.as_str()), Words(" soft "), Words(self.soft.as_str()),
+            Words(" hard "), Words(self.hard.as_str()), Words(where_some(" ", &self.unit)),
+            Words(or_empty(&self.unit)),
+        ])
+    }
 }
 
 // ---- Linux's environment
@@ -336,10 +360,10 @@ fn push_environment(
     match found {
         Ok(found) => {
             let variables = variables_of(*out.allocator(), found)?;
-            push_variables(
+            push_list(
                 out,
-                "environment variables",
                 limits.environment,
+                "environment variables",
                 variables.as_slice(),
             )
         }
@@ -347,42 +371,24 @@ fn push_environment(
     }
 }
 
-// Appends the number of variables, and their lines if they are asked for.
-fn push_variables(
-    out: &mut String,
-    what: &str,
-    is_asked: bool,
-    variables: &[(LinuxOsStr<'_>, LinuxOsStr<'_>)],
-) -> Added
-    ensures { Adds out.old out.new
-        (list_lines is_asked what.now variable_line (map parts_of variables.now)) result }
-{
-    push_count(out, what, variables.len())?;
-    if is_asked {
-        push_each_variable(out, variables)
-    } else {
-        Ok(())
-    }
-}
+// A variable, by its name and its value.
+impl Line for (LinuxOsStr<'_>, LinuxOsStr<'_>) {
+    ghost use Rattle.std.specs.Prelude.{ℕ, List};
+    ghost use Rattle.minidump.specs.Below.Bytes.LinuxOsStr.{parts_of};
+    ghost use Rattle.crash_text.specs.Lists.{variable_line};
 
-// Appends the lines of variables.
-fn push_each_variable(out: &mut String, variables: &[(LinuxOsStr<'_>, LinuxOsStr<'_>)]) -> Added
-    ensures { Adds out.old out.new (map variable_line (map parts_of variables.now)) result }
-{
-    for variable in variables {
-        push_variable(out, variable)?;
-    }
-    Ok(())
-}
+    ghost Value = { List ℕ × List ℕ };
 
-// Appends the line of a variable.
-fn push_variable(out: &mut String, variable: &(LinuxOsStr<'_>, LinuxOsStr<'_>)) -> Added
-    ensures { Adds out.old out.new (variable_line (parts_of variable.now) ∷ []) result }
-{
-    let alloc = *out.allocator();
-    let name = variable.0.to_string_lossy(alloc)?;
-    let value = variable.1.to_string_lossy(alloc)?;
-    push_variable_row(out, name.as_str(), value.as_str())
+    ghost value_of = { parts_of };
+
+    ghost line = { variable_line };
+
+    fn push(&self, out: &mut String) -> Added {
+        let alloc = *out.allocator();
+        let name = self.0.to_string_lossy(alloc)?;
+        let value = self.1.to_string_lossy(alloc)?;
+        push_variable_row(out, name.as_str(), value.as_str())
+    }
 }
 
 #[rattlefmt::skip]

@@ -23,7 +23,7 @@ pub struct MinidumpImplementedStream {
 }
 
 /// A stream whose type has no name in [`MINIDUMP_STREAM_TYPE`].
-#[derive(Clone, Debug, Drop)]
+#[derive(Clone, Drop)]
 pub struct MinidumpUnknownStream {
     /// The type, as a number.
     pub stream_type: u32,
@@ -34,7 +34,7 @@ pub struct MinidumpUnknownStream {
 }
 
 /// A stream whose type has a name in [`MINIDUMP_STREAM_TYPE`], but is never read.
-#[derive(Clone, Debug, Drop)]
+#[derive(Clone, Drop)]
 pub struct MinidumpUnimplementedStream {
     /// The type.
     pub stream_type: MINIDUMP_STREAM_TYPE,

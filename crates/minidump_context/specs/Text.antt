@@ -17,7 +17,7 @@ use Rattle.minidump_context.specs.declared.raw_context.MinidumpRawContext.TheVar
 
 -- the line of a register: the text in front of its value, and the value
 unfoldable pub register_line : List ℕ → ℕ → List ℕ
-register_line front value = front ++ (hex value ++ codes "\n")
+register_line front value = front ++ (hex value ++ line_end)
 
 -- the text in front of the value of a numbered register, the number at the left of its two columns
 abbrev pub left_front : List ℕ → List ℕ → ℕ → List ℕ
@@ -39,7 +39,7 @@ numbered_lines front values =
 
 -- the line of a register of many bytes, with two digits for each byte
 unfoldable pub bytes_line : List ℕ → List ℕ → List ℕ
-bytes_line front bytes = front ++ (encode_lower bytes ++ codes "\n")
+bytes_line front bytes = front ++ (encode_lower bytes ++ line_end)
 
 -- the lines of ContextFlags, the debug registers and the words of FLOATING_SAVE_AREA
 unfoldable pub x86_debug_lines : CONTEXT_X86 → List ℕ

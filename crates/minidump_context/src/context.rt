@@ -30,7 +30,7 @@ impl Exact for ContextError {
 }
 
 /// The registers of a thread, and which of them are valid.
-#[derive(Debug, Drop)]
+#[derive(Drop)]
 pub struct MinidumpContext {
     /// The record, in the layout of its processor.
     pub raw: MinidumpRawContext,

@@ -124,8 +124,10 @@ pub trait CpuContext: CpuRegisterNames + Record {
         ensures { option_copied result ≡ register_name (names_of Self.table) aliases reg.now }
     {
         let names = Self::names();
-        let index = register_index(names, Self::aliases(), reg)?;
-        Some(names[index])
+        match register_index(names, Self::aliases(), reg) {
+            Some(index) => Some(names[index]),
+            None => None,
+        }
     }
 
     /// Returns whether `reg` is a name of a valid register. A register is valid if `valid` has any

@@ -8,7 +8,7 @@ use minidump_format::format::{
 };
 
 /// The context of a thread, in the record of its processor.
-#[derive(Clone, Copy, Debug)]
+#[derive(Clone, Copy)]
 pub enum MinidumpRawContext {
     /// x86: Microsoft's `CONTEXT`, of 716 bytes.
     X86(CONTEXT_X86),

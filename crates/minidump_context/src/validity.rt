@@ -8,7 +8,7 @@ use std::alloc::Global;
 use std::collections::HashSet;
 
 /// Which registers of a context are valid.
-#[derive(PartialEq, Eq, Debug, Drop)]
+#[derive(PartialEq, Eq, Drop)]
 pub enum MinidumpContextValidity {
     /// All registers are valid.
     All,

@@ -102,7 +102,7 @@ impl fmt::Display for DebugId {
 }
 
 /// A debug identifier as Breakpad writes it.
-#[derive(Clone, Copy, Debug)]
+#[derive(Clone, Copy)]
 pub struct BreakpadFormat {
     id: DebugId,
 }

@@ -9,7 +9,7 @@ use minidump_index::{Range, Region};
 use std::alloc::{AllocError, Global};
 
 /// The range of a module and its index in the list.
-#[derive(Clone, Copy, Debug, PartialEq, Eq, PartialOrd, Ord)]
+#[derive(Clone, Copy, PartialEq, Eq, PartialOrd, Ord)]
 pub struct IndexedRange {
     /// The range.
     pub range: Range,

@@ -5,7 +5,7 @@ ghost use Rattle.stack_walk.specs.WalkEnd.{has_record, walk_end};
 use crate::{Stack, StackFrame};
 
 /// Why the last frame of a walk has no caller by its frame pointer: the first of these that holds.
-#[derive(Clone, Copy, Debug, PartialEq, Eq)]
+#[derive(Clone, Copy, PartialEq, Eq)]
 pub enum WalkEnd {
     /// The dump has no memory of the stack.
     NoMemory,

@@ -10,7 +10,7 @@ use minidump::system_info::{Cpu, PointerWidth};
 use minidump::{MinidumpModule, MinidumpModuleList};
 
 /// How a frame was found.
-#[derive(Clone, Copy, Debug, PartialEq, Eq)]
+#[derive(Clone, Copy, PartialEq, Eq)]
 pub enum FrameTrust {
     /// The registers of the thread's context.
     Context,
@@ -24,7 +24,7 @@ pub enum FrameTrust {
 }
 
 /// A frame of a stack.
-#[derive(Clone, Copy, Debug, PartialEq, Eq)]
+#[derive(Clone, Copy, PartialEq, Eq)]
 pub struct StackFrame {
     /// The instruction pointer of the context, or else the return address by which the frame was
     /// found.

@@ -7,7 +7,7 @@ use minidump::{Error, MinidumpContext, MinidumpRawContext};
 use std::alloc::{AllocError, Global};
 
 /// The frames of a context, the candidates, and why there are no more callers.
-#[derive(Debug, Drop)]
+#[derive(Drop)]
 pub struct Walk {
     /// The frame of the context and its callers by frame pointers, the innermost first.
     pub frames: Vec<StackFrame>,

@@ -12,7 +12,7 @@ use stack_walk::StackFrame;
 use std::alloc::{AllocError, Global};
 
 /// A frame, with what is known of its registers.
-#[derive(Debug, Drop)]
+#[derive(Drop)]
 pub struct KnownFrame {
     /// The frame.
     pub frame: StackFrame,

@@ -12,7 +12,7 @@ use minidump::MinidumpRawContext;
 use std::alloc::{AllocError, Global};
 
 /// A register of a frame whose value is known.
-#[derive(Clone, Copy, Debug, PartialEq, Eq)]
+#[derive(Clone, Copy, PartialEq, Eq)]
 pub struct KnownRegister {
     /// The name that a context has for it.
     pub name: &'static str,

@@ -17,7 +17,7 @@ use stack_walk::{Stack, StackFrame, WalkEnd};
 use std::alloc::{AllocError, Global};
 
 /// Why the last frame of a walk by symbols has no caller.
-#[derive(Clone, Copy, Debug, PartialEq, Eq)]
+#[derive(Clone, Copy, PartialEq, Eq)]
 pub enum SymbolWalkEnd {
     /// Neither its rules nor its frame pointer nor the next words of the stack give one. The value
     /// says why its frame pointer gives none.
@@ -30,7 +30,7 @@ pub enum SymbolWalkEnd {
 }
 
 /// The frames of a context by symbols, the candidates, and why there are no more callers.
-#[derive(Debug, Drop)]
+#[derive(Drop)]
 pub struct SymbolWalk {
     /// The frame of the context and its callers, the innermost first.
     pub frames: Vec<KnownFrame>,

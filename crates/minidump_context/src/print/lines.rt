@@ -1,10 +1,12 @@
-ghost use Rattle.std.specs.Prelude.{◌≡◌, ◌++◌, ℕ, OnOk, codes};
+ghost use Rattle.std.specs.Prelude.{◌≡◌, ◌++◌, ℕ, OnOk};
 ghost use Rattle.std.specs.List.{enumerate_from, flat_map};
 ghost use Rattle.minidump_bytes.specs.Piece.{hex};
+ghost use Rattle.minidump_format.specs.Text.{line_end};
 ghost use Rattle.minidump_context.specs.Text.{bytes_line, front_text, left_front, register_line};
 
 use itoa::Buffer;
 use minidump_bytes::{Piece, push_bytes, push_pieces};
+use minidump_format::push_line_end;
 use std::alloc::AllocError;
 
 // The value of a register, 32 to 128 bits wide.
@@ -85,10 +87,10 @@ fn push_left(out: &mut Vec<u8>, before: &str, number: usize, after: &str) -> Res
 // Appends a value and the end of its line.
 fn push_value<T: RegisterValue>(out: &mut Vec<u8>, value: &T) -> Result<(), AllocError>
     ensures { OnOk result (out.new.items ≡ out.old.items
-        ++ (hex (T.number value.now) ++ codes "\n")) }
+        ++ (hex (T.number value.now) ++ line_end)) }
 {
     value.push_hex(out)?;
-    out.extend_from_slice(b"\n")
+    push_line_end(out)
 }
 
 // Appends the line of a register.
@@ -157,5 +159,5 @@ pub(crate) fn push_bytes_line(
 {
     out.extend_from_slice(front.as_bytes())?;
     push_bytes(out, bytes)?;
-    out.extend_from_slice(b"\n")
+    push_line_end(out)
 }

@@ -4,7 +4,7 @@ ghost use Rattle.std.proofs.lemmas.Slice.Eq.{bytes_eq-Decides};
 use minidump_bytes::{Endian, Exact, Record, array_at};
 
 /// An assertion that failed: Breakpad's `MDRawAssertionInfo`.
-#[derive(Clone, Copy, Debug, PartialEq, Eq)]
+#[derive(Clone, Copy, PartialEq, Eq)]
 pub struct MINIDUMP_ASSERTION_INFO {
     /// The assertion, in UTF-16, up to the first 0.
     pub expression: [u16; 128],

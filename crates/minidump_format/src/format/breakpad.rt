@@ -6,7 +6,7 @@ use bitflags::{Flag, Flags, bitflag_items};
 use minidump_bytes::{Endian, Exact, Record};
 
 /// The threads that wrote and requested the dump: Breakpad's `MDRawBreakpadInfo`.
-#[derive(Clone, Copy, Debug, PartialEq, Eq)]
+#[derive(Clone, Copy, PartialEq, Eq)]
 pub struct MINIDUMP_BREAKPAD_INFO {
     /// Which of the other fields are set: [`BreakpadInfoValid`], as a number.
     pub validity: u32,
@@ -41,7 +41,7 @@ impl Exact for MINIDUMP_BREAKPAD_INFO {
 }
 
 /// Which fields of the Breakpad information are set: Breakpad's `MD_BREAKPAD_INFO_VALID_` numbers.
-#[derive(Clone, Copy, Debug, PartialEq, Eq)]
+#[derive(Clone, Copy, PartialEq, Eq)]
 pub struct BreakpadInfoValid(u32);
 
 bitflag_items! {

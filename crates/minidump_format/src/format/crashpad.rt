@@ -5,7 +5,7 @@ use super::{GUID, MINIDUMP_LOCATION_DESCRIPTOR, RVA};
 use minidump_bytes::{Endian, Exact, Record};
 
 /// Crashpad's information on the process: `MinidumpCrashpadInfo`.
-#[derive(Clone, Copy, Debug, PartialEq, Eq)]
+#[derive(Clone, Copy, PartialEq, Eq)]
 pub struct MINIDUMP_CRASHPAD_INFO {
     /// The version of the record.
     pub version: u32,
@@ -56,7 +56,7 @@ impl Exact for MINIDUMP_CRASHPAD_INFO {
 }
 
 /// A link from a module to Crashpad's information on it: `MinidumpModuleCrashpadInfoLink`.
-#[derive(Clone, Copy, Debug, PartialEq, Eq)]
+#[derive(Clone, Copy, PartialEq, Eq)]
 pub struct MINIDUMP_MODULE_CRASHPAD_INFO_LINK {
     /// The index of the module in the module list.
     pub minidump_module_list_index: u32,
@@ -88,7 +88,7 @@ impl Exact for MINIDUMP_MODULE_CRASHPAD_INFO_LINK {
 }
 
 /// Crashpad's information on a module: `MinidumpModuleCrashpadInfo`.
-#[derive(Clone, Copy, Debug, PartialEq, Eq)]
+#[derive(Clone, Copy, PartialEq, Eq)]
 pub struct MINIDUMP_MODULE_CRASHPAD_INFO {
     /// The version of the record.
     pub version: u32,
@@ -126,7 +126,7 @@ impl Exact for MINIDUMP_MODULE_CRASHPAD_INFO {
 }
 
 /// An entry of a dictionary: Crashpad's `MinidumpSimpleStringDictionaryEntry`.
-#[derive(Clone, Copy, Debug, PartialEq, Eq)]
+#[derive(Clone, Copy, PartialEq, Eq)]
 pub struct MINIDUMP_SIMPLE_STRING_DICTIONARY_ENTRY {
     /// The RVA of the key, a `MinidumpUTF8String`.
     pub key: RVA,
@@ -158,7 +158,7 @@ impl Exact for MINIDUMP_SIMPLE_STRING_DICTIONARY_ENTRY {
 }
 
 /// A named value: Crashpad's `MinidumpAnnotation`.
-#[derive(Clone, Copy, Debug, PartialEq, Eq)]
+#[derive(Clone, Copy, PartialEq, Eq)]
 pub struct MINIDUMP_ANNOTATION {
     /// The RVA of the name, a `MinidumpUTF8String`.
     pub name: RVA,

@@ -5,7 +5,7 @@ use super::MINIDUMP_LOCATION_DESCRIPTOR;
 use minidump_bytes::{Endian, Exact, Record, array_at};
 
 /// An exception: Microsoft's `MINIDUMP_EXCEPTION`.
-#[derive(Clone, Copy, Debug, PartialEq, Eq)]
+#[derive(Clone, Copy, PartialEq, Eq)]
 pub struct MINIDUMP_EXCEPTION {
     /// The exception code of the operating system.
     pub exception_code: u32,
@@ -58,7 +58,7 @@ impl Exact for MINIDUMP_EXCEPTION {
 }
 
 /// An exception with its thread: Microsoft's `MINIDUMP_EXCEPTION_STREAM`.
-#[derive(Clone, Copy, Debug, PartialEq, Eq)]
+#[derive(Clone, Copy, PartialEq, Eq)]
 pub struct MINIDUMP_EXCEPTION_STREAM {
     /// The id of the thread on which the exception happened.
     pub thread_id: u32,

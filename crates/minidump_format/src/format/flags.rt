@@ -4,7 +4,7 @@ ghost use Rattle.minidump_format.specs.Flags.{misc_info_flags, arm_features};
 use bitflags::{Flag, Flags, bitflag_items};
 
 /// Which fields of the misc information are set: Microsoft's `MINIDUMP_MISC1_PROCESS_ID` and so on.
-#[derive(Clone, Copy, Debug, PartialEq, Eq)]
+#[derive(Clone, Copy, PartialEq, Eq)]
 pub struct MiscInfoFlags(u32);
 
 bitflag_items! {
@@ -55,7 +55,7 @@ impl Flags for MiscInfoFlags {
 
 /// The features of an ARM processor, as Linux reports them: the `HWCAP_` numbers of its
 /// `asm/hwcap.h`.
-#[derive(Clone, Copy, Debug, PartialEq, Eq)]
+#[derive(Clone, Copy, PartialEq, Eq)]
 pub struct ArmElfHwCaps(u32);
 
 bitflag_items! {

@@ -8,7 +8,7 @@ use std::fmt;
 use uuid::Uuid;
 
 /// A globally unique identifier: Microsoft's `GUID`.
-#[derive(Clone, Copy, Debug, PartialEq, Eq)]
+#[derive(Clone, Copy, PartialEq, Eq)]
 pub struct GUID {
     /// The first eight hexadecimal digits.
     pub data1: u32,

@@ -6,7 +6,7 @@ use super::RVA;
 use minidump_bytes::{Endian, Exact, Record};
 
 /// An open handle: Microsoft's `MINIDUMP_HANDLE_DESCRIPTOR`.
-#[derive(Clone, Copy, Debug, PartialEq, Eq)]
+#[derive(Clone, Copy, PartialEq, Eq)]
 pub struct MINIDUMP_HANDLE_DESCRIPTOR {
     /// The value of the handle.
     pub handle: u64,
@@ -54,7 +54,7 @@ impl Exact for MINIDUMP_HANDLE_DESCRIPTOR {
 
 /// An open handle, with further information on its object: Microsoft's
 /// `MINIDUMP_HANDLE_DESCRIPTOR_2`.
-#[derive(Clone, Copy, Debug, PartialEq, Eq)]
+#[derive(Clone, Copy, PartialEq, Eq)]
 pub struct MINIDUMP_HANDLE_DESCRIPTOR_2 {
     /// The value of the handle.
     pub handle: u64,
@@ -108,7 +108,7 @@ impl Exact for MINIDUMP_HANDLE_DESCRIPTOR_2 {
 
 /// The head of a piece of information on the object of a handle: Microsoft's
 /// `MINIDUMP_HANDLE_OBJECT_INFORMATION`.
-#[derive(Clone, Copy, Debug, PartialEq, Eq)]
+#[derive(Clone, Copy, PartialEq, Eq)]
 pub struct MINIDUMP_HANDLE_OBJECT_INFORMATION {
     /// The RVA of the next piece of information, or 0.
     pub next_info_rva: RVA,

@@ -17,7 +17,7 @@ pub const MINIDUMP_SIGNATURE: u32 = 0x504d_444d;
 pub const MINIDUMP_VERSION: u32 = 0xa793;
 
 /// The header of a minidump, its first 32 bytes: Microsoft's `MINIDUMP_HEADER`.
-#[derive(Clone, Copy, Debug, PartialEq, Eq)]
+#[derive(Clone, Copy, PartialEq, Eq)]
 pub struct MINIDUMP_HEADER {
     /// [`MINIDUMP_SIGNATURE`].
     pub signature: u32,
@@ -60,7 +60,7 @@ impl Record for MINIDUMP_HEADER {
 }
 
 /// The location of a part of the file: Microsoft's `MINIDUMP_LOCATION_DESCRIPTOR`.
-#[derive(Clone, Copy, Debug, PartialEq, Eq)]
+#[derive(Clone, Copy, PartialEq, Eq)]
 pub struct MINIDUMP_LOCATION_DESCRIPTOR {
     /// The number of bytes.
     pub data_size: u32,
@@ -99,7 +99,7 @@ impl Record for MINIDUMP_LOCATION_DESCRIPTOR {
 }
 
 /// An entry of the directory: Microsoft's `MINIDUMP_DIRECTORY`.
-#[derive(Clone, Copy, Debug, PartialEq, Eq)]
+#[derive(Clone, Copy, PartialEq, Eq)]
 pub struct MINIDUMP_DIRECTORY {
     /// The type of the stream, as a number.
     pub stream_type: u32,

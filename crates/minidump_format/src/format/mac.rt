@@ -4,7 +4,7 @@ use super::MINIDUMP_LOCATION_DESCRIPTOR;
 use minidump_bytes::{Endian, Exact, Record, array_at};
 
 /// The crash information of macOS: Mozilla's `MDRawMacCrashInfo`.
-#[derive(Clone, Copy, Debug, PartialEq, Eq)]
+#[derive(Clone, Copy, PartialEq, Eq)]
 pub struct MINIDUMP_MAC_CRASH_INFO {
     /// The type of the stream, as a number.
     pub stream_type: u32,
@@ -39,7 +39,7 @@ impl Record for MINIDUMP_MAC_CRASH_INFO {
 
 /// The head of each record of crash information, and all that is read of one of version 1 to 3:
 /// Mozilla's `MDRawMacCrashInfoRecord`.
-#[derive(Clone, Copy, Debug, PartialEq, Eq)]
+#[derive(Clone, Copy, PartialEq, Eq)]
 pub struct MINIDUMP_MAC_CRASH_INFO_RECORD {
     /// The type of the stream, as a number.
     pub stream_type: u64,
@@ -71,7 +71,7 @@ impl Exact for MINIDUMP_MAC_CRASH_INFO_RECORD {
 }
 
 /// A record of crash information of version 4, before its texts.
-#[derive(Clone, Copy, Debug, PartialEq, Eq)]
+#[derive(Clone, Copy, PartialEq, Eq)]
 pub struct MINIDUMP_MAC_CRASH_INFO_RECORD_4 {
     /// The type of the stream, as a number.
     pub stream_type: u64,
@@ -109,7 +109,7 @@ impl Exact for MINIDUMP_MAC_CRASH_INFO_RECORD_4 {
 }
 
 /// A record of crash information of version 5 or above, before its texts.
-#[derive(Clone, Copy, Debug, PartialEq, Eq)]
+#[derive(Clone, Copy, PartialEq, Eq)]
 pub struct MINIDUMP_MAC_CRASH_INFO_RECORD_5 {
     /// The type of the stream, as a number.
     pub stream_type: u64,
@@ -150,7 +150,7 @@ impl Exact for MINIDUMP_MAC_CRASH_INFO_RECORD_5 {
 }
 
 /// The boot arguments of macOS: Mozilla's `MDRawMacBootargs`.
-#[derive(Clone, Copy, Debug, PartialEq, Eq)]
+#[derive(Clone, Copy, PartialEq, Eq)]
 pub struct MINIDUMP_MAC_BOOTARGS {
     /// The type of the stream, as a number.
     pub stream_type: u32,
@@ -182,7 +182,7 @@ impl Exact for MINIDUMP_MAC_BOOTARGS {
 }
 
 /// The texts of a record of version 1 to 3: none.
-#[derive(Clone, Copy, Debug, PartialEq, Eq)]
+#[derive(Clone, Copy, PartialEq, Eq)]
 pub struct MINIDUMP_MAC_CRASH_INFO_RECORD_STRINGS {}
 
 impl Exact for MINIDUMP_MAC_CRASH_INFO_RECORD_STRINGS {

@@ -4,7 +4,7 @@ use super::MINIDUMP_LOCATION_DESCRIPTOR;
 use minidump_bytes::{Endian, Record};
 
 /// A memory region, and the location of its bytes: Microsoft's `MINIDUMP_MEMORY_DESCRIPTOR`.
-#[derive(Clone, Copy, Debug, PartialEq, Eq)]
+#[derive(Clone, Copy, PartialEq, Eq)]
 pub struct MINIDUMP_MEMORY_DESCRIPTOR {
     /// The base address.
     pub start_of_memory_range: u64,
@@ -33,7 +33,7 @@ impl Record for MINIDUMP_MEMORY_DESCRIPTOR {
 
 /// A memory region of a list whose regions' bytes are consecutive in the file: Microsoft's
 /// `MINIDUMP_MEMORY_DESCRIPTOR64`.
-#[derive(Clone, Copy, Debug, PartialEq, Eq)]
+#[derive(Clone, Copy, PartialEq, Eq)]
 pub struct MINIDUMP_MEMORY_DESCRIPTOR64 {
     /// The base address.
     pub start_of_memory_range: u64,

@@ -6,7 +6,7 @@ use bitflags::{Flag, Flags, bitflag_items};
 use minidump_bytes::{Endian, Exact, Record};
 
 /// Information on a region of memory: Microsoft's `MINIDUMP_MEMORY_INFO`.
-#[derive(Clone, Copy, Debug, PartialEq, Eq)]
+#[derive(Clone, Copy, PartialEq, Eq)]
 pub struct MINIDUMP_MEMORY_INFO {
     /// The base address.
     pub base_address: u64,
@@ -59,7 +59,7 @@ impl Exact for MINIDUMP_MEMORY_INFO {
 }
 
 /// The access that pages allow: Microsoft's `PAGE_` numbers.
-#[derive(Clone, Copy, Debug, PartialEq, Eq)]
+#[derive(Clone, Copy, PartialEq, Eq)]
 pub struct MemoryProtection(u32);
 
 bitflag_items! {
@@ -117,7 +117,7 @@ impl Exact for MemoryProtection {
 }
 
 /// The state of memory: Microsoft's `MEM_COMMIT`, `MEM_RESERVE` and `MEM_FREE`.
-#[derive(Clone, Copy, Debug, PartialEq, Eq)]
+#[derive(Clone, Copy, PartialEq, Eq)]
 pub struct MemoryState(u32);
 
 bitflag_items! {
@@ -159,7 +159,7 @@ impl Exact for MemoryState {
 }
 
 /// The type of memory: Microsoft's `MEM_PRIVATE`, `MEM_MAPPED` and `MEM_IMAGE`.
-#[derive(Clone, Copy, Debug, PartialEq, Eq)]
+#[derive(Clone, Copy, PartialEq, Eq)]
 pub struct MemoryType(u32);
 
 bitflag_items! {

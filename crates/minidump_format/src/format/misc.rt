@@ -3,7 +3,7 @@ ghost use Rattle.std.proofs.Common.{rules};
 use minidump_bytes::{Endian, Record, array_at};
 
 /// Information on the process, in the first layout: Microsoft's `MINIDUMP_MISC_INFO`.
-#[derive(Clone, Copy, Debug, PartialEq, Eq)]
+#[derive(Clone, Copy, PartialEq, Eq)]
 pub struct MINIDUMP_MISC_INFO {
     /// The size of the record as its writer states it. The layout is chosen by the stream's length
     /// instead.
@@ -44,7 +44,7 @@ impl Record for MINIDUMP_MISC_INFO {
 }
 
 /// The second layout, with the clock rates of the processors: Microsoft's `MINIDUMP_MISC_INFO_2`.
-#[derive(Clone, Copy, Debug, PartialEq, Eq)]
+#[derive(Clone, Copy, PartialEq, Eq)]
 pub struct MINIDUMP_MISC_INFO_2 {
     /// The size of the record as its writer states it. The layout is chosen by the stream's length
     /// instead.
@@ -100,7 +100,7 @@ impl Record for MINIDUMP_MISC_INFO_2 {
 }
 
 /// A date and time of day: Microsoft's `SYSTEMTIME`.
-#[derive(Clone, Copy, Debug, PartialEq, Eq)]
+#[derive(Clone, Copy, PartialEq, Eq)]
 pub struct SYSTEMTIME {
     /// The year; 0 in a time zone's date that recurs every year.
     pub year: u16,
@@ -147,7 +147,7 @@ impl Record for SYSTEMTIME {
 }
 
 /// A time zone: Microsoft's `TIME_ZONE_INFORMATION`.
-#[derive(Clone, Copy, Debug, PartialEq, Eq)]
+#[derive(Clone, Copy, PartialEq, Eq)]
 pub struct TIME_ZONE_INFORMATION {
     /// Minutes to add to local time for UTC.
     pub bias: i32,
@@ -190,7 +190,7 @@ impl Record for TIME_ZONE_INFORMATION {
 }
 
 /// The third layout, with the time zone: Microsoft's `MINIDUMP_MISC_INFO_3`.
-#[derive(Clone, Copy, Debug, PartialEq, Eq)]
+#[derive(Clone, Copy, PartialEq, Eq)]
 pub struct MINIDUMP_MISC_INFO_3 {
     /// The size of the record as its writer states it. The layout is chosen by the stream's length
     /// instead.
@@ -261,7 +261,7 @@ impl Record for MINIDUMP_MISC_INFO_3 {
 }
 
 /// The fourth layout, with the builds: Microsoft's `MINIDUMP_MISC_INFO_4`.
-#[derive(Clone, Copy, Debug, PartialEq, Eq)]
+#[derive(Clone, Copy, PartialEq, Eq)]
 pub struct MINIDUMP_MISC_INFO_4 {
     /// The size of the record as its writer states it. The layout is chosen by the stream's length
     /// instead.
@@ -338,7 +338,7 @@ impl Record for MINIDUMP_MISC_INFO_4 {
 }
 
 /// The offset and the size of a feature in the extended state: Microsoft's `XSTATE_FEATURE`.
-#[derive(Clone, Copy, Debug, PartialEq, Eq)]
+#[derive(Clone, Copy, PartialEq, Eq)]
 pub struct XSTATE_FEATURE {
     /// The offset of its state in the extended state.
     pub offset: u32,
@@ -366,7 +366,7 @@ impl Record for XSTATE_FEATURE {
 }
 
 /// The layout of a processor's extended state: Microsoft's `XSTATE_CONFIG_FEATURE_MSC_INFO`.
-#[derive(Clone, Copy, Debug, PartialEq, Eq)]
+#[derive(Clone, Copy, PartialEq, Eq)]
 pub struct XSTATE_CONFIG_FEATURE_MSC_INFO {
     /// The size of the record as its writer states it.
     pub size_of_info: u32,
@@ -401,7 +401,7 @@ impl Record for XSTATE_CONFIG_FEATURE_MSC_INFO {
 }
 
 /// The fifth layout, with the extended state: Microsoft's `MINIDUMP_MISC_INFO_5`.
-#[derive(Clone, Copy, Debug, PartialEq, Eq)]
+#[derive(Clone, Copy, PartialEq, Eq)]
 pub struct MINIDUMP_MISC_INFO_5 {
     /// The size of the record as its writer states it. The layout is chosen by the stream's length
     /// instead.

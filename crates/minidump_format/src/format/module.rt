@@ -4,7 +4,7 @@ use super::{MINIDUMP_LOCATION_DESCRIPTOR, RVA};
 use minidump_bytes::{Endian, Exact, Record, array_at};
 
 /// The version of a file: Microsoft's `VS_FIXEDFILEINFO`.
-#[derive(Clone, Copy, Debug, PartialEq, Eq)]
+#[derive(Clone, Copy, PartialEq, Eq)]
 pub struct VS_FIXEDFILEINFO {
     /// [`VS_FFI_SIGNATURE`] where the version is set.
     pub signature: u32,
@@ -72,7 +72,7 @@ impl Exact for VS_FIXEDFILEINFO {
 }
 
 /// A loaded module: Microsoft's `MINIDUMP_MODULE`.
-#[derive(Clone, Copy, Debug, PartialEq, Eq)]
+#[derive(Clone, Copy, PartialEq, Eq)]
 pub struct MINIDUMP_MODULE {
     /// The base address.
     pub base_of_image: u64,
@@ -121,7 +121,7 @@ impl Record for MINIDUMP_MODULE {
 }
 
 /// An unloaded module: Microsoft's `MINIDUMP_UNLOADED_MODULE`.
-#[derive(Clone, Copy, Debug, PartialEq, Eq)]
+#[derive(Clone, Copy, PartialEq, Eq)]
 pub struct MINIDUMP_UNLOADED_MODULE {
     /// The base address.
     pub base_of_image: u64,

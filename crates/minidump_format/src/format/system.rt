@@ -7,7 +7,7 @@ use super::RVA;
 use minidump_bytes::{Endian, Record, array_at};
 
 /// The system information: Microsoft's `MINIDUMP_SYSTEM_INFO`.
-#[derive(Clone, Copy, Debug, PartialEq, Eq)]
+#[derive(Clone, Copy, PartialEq, Eq)]
 pub struct MINIDUMP_SYSTEM_INFO {
     /// The architecture: [`ProcessorArchitecture`], as a number.
     pub processor_architecture: u16,
@@ -68,7 +68,7 @@ impl Record for MINIDUMP_SYSTEM_INFO {
 }
 
 /// The CPU information of x86, 24 bytes: Microsoft's `X86CpuInfo` of `CPU_INFORMATION`.
-#[derive(Clone, Copy, Debug, PartialEq, Eq)]
+#[derive(Clone, Copy, PartialEq, Eq)]
 pub struct X86CpuInfo {
     /// The vendor's 12 characters, the lowest byte of each number first.
     pub vendor_id: [u32; 3],
@@ -97,7 +97,7 @@ impl Record for X86CpuInfo {
 
 /// The CPU information of ARM, the first 8 of the 24 bytes: Breakpad's `arm_cpu_info` of
 /// `MDCPUInformation`.
-#[derive(Clone, Copy, Debug, PartialEq, Eq)]
+#[derive(Clone, Copy, PartialEq, Eq)]
 pub struct ARMCpuInfo {
     /// The main id register, which names the implementer and the part.
     pub cpuid: u32,

@@ -4,7 +4,7 @@ use super::{MINIDUMP_LOCATION_DESCRIPTOR, MINIDUMP_MEMORY_DESCRIPTOR};
 use minidump_bytes::{Endian, Exact, Record};
 
 /// A thread: Microsoft's `MINIDUMP_THREAD`.
-#[derive(Clone, Copy, Debug, PartialEq, Eq)]
+#[derive(Clone, Copy, PartialEq, Eq)]
 pub struct MINIDUMP_THREAD {
     /// The id of the thread.
     pub thread_id: u32,
@@ -51,7 +51,7 @@ impl Exact for MINIDUMP_THREAD {
 }
 
 /// The name of a thread: Microsoft's `MINIDUMP_THREAD_NAME`.
-#[derive(Clone, Copy, Debug, PartialEq, Eq)]
+#[derive(Clone, Copy, PartialEq, Eq)]
 pub struct MINIDUMP_THREAD_NAME {
     /// The id of the thread.
     pub thread_id: u32,
@@ -83,7 +83,7 @@ impl Exact for MINIDUMP_THREAD_NAME {
 }
 
 /// The state of a thread: Microsoft's `MINIDUMP_THREAD_INFO`.
-#[derive(Clone, Copy, Debug, PartialEq, Eq)]
+#[derive(Clone, Copy, PartialEq, Eq)]
 pub struct MINIDUMP_THREAD_INFO {
     /// The id of the thread.
     pub thread_id: u32,

@@ -4,7 +4,7 @@ use minidump_bytes::{Endian, Record, array_at};
 
 /// The registers of a thread on an x86-64 processor: Microsoft's `CONTEXT` of x64, Breakpad's
 /// `MDRawContextAMD64`.
-#[derive(Clone, Copy, Debug)]
+#[derive(Clone, Copy)]
 pub struct CONTEXT_AMD64 {
     /// The home space of a call's first parameter; the next five fields likewise.
     pub p1_home: u64,

@@ -3,7 +3,7 @@ ghost use Rattle.std.proofs.Common.{rules};
 use minidump_bytes::{Endian, Record, array_at};
 
 /// The floating-point state of an ARM processor: Breakpad's `MDFloatingSaveAreaARM`.
-#[derive(Clone, Copy, Debug)]
+#[derive(Clone, Copy)]
 pub struct FLOATING_SAVE_AREA_ARM {
     /// The floating-point status and control register `fpscr`.
     pub fpscr: u64,
@@ -34,7 +34,7 @@ impl Record for FLOATING_SAVE_AREA_ARM {
 }
 
 /// The registers of a thread on an ARM processor: Breakpad's `MDRawContextARM`.
-#[derive(Clone, Copy, Debug)]
+#[derive(Clone, Copy)]
 pub struct CONTEXT_ARM {
     /// The processor, as [`ContextFlagsCpu`](super::ContextFlagsCpu) names it, and which registers
     /// are set.

@@ -4,7 +4,7 @@ use minidump_bytes::{Endian, Record, array_at};
 
 /// The registers of a thread on an ARM64 processor: Microsoft's `ARM64_NT_CONTEXT`, Breakpad's
 /// `MDRawContextARM64`.
-#[derive(Clone, Copy, Debug)]
+#[derive(Clone, Copy)]
 pub struct CONTEXT_ARM64 {
     /// The processor, as [`ContextFlagsCpu`](super::ContextFlagsCpu) names it, and which registers
     /// are set.
@@ -64,7 +64,7 @@ impl Record for CONTEXT_ARM64 {
 
 /// The registers of a thread on an ARM64 processor, in Breakpad's first layout:
 /// `MDRawContextARM64_Old`.
-#[derive(Clone, Copy, Debug)]
+#[derive(Clone, Copy)]
 pub struct CONTEXT_ARM64_OLD {
     /// The processor, as [`ContextFlagsCpu`](super::ContextFlagsCpu) names it, and which registers
     /// are set.

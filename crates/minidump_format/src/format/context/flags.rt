@@ -8,7 +8,7 @@ use minidump_bytes::Exact;
 
 /// The processor of a context, as bits of its flags: Microsoft's `CONTEXT_i386` and so on,
 /// Breakpad's `MD_CONTEXT_` numbers.
-#[derive(Clone, Copy, Debug, PartialEq, Eq)]
+#[derive(Clone, Copy, PartialEq, Eq)]
 pub struct ContextFlagsCpu(u32);
 
 bitflag_items! {

@@ -3,7 +3,7 @@ ghost use Rattle.std.proofs.Common.{rules};
 use minidump_bytes::{Endian, Record, array_at};
 
 /// The floating-point state of an x86 processor: Microsoft's `FLOATING_SAVE_AREA`.
-#[derive(Clone, Copy, Debug)]
+#[derive(Clone, Copy)]
 pub struct FLOATING_SAVE_AREA_X86 {
     /// The x87 control word.
     pub control_word: u32,
@@ -53,7 +53,7 @@ impl Record for FLOATING_SAVE_AREA_X86 {
 
 /// The registers of a thread on an x86 processor: Microsoft's `CONTEXT` of x86, Breakpad's
 /// `MDRawContextX86`.
-#[derive(Clone, Copy, Debug)]
+#[derive(Clone, Copy)]
 pub struct CONTEXT_X86 {
     /// The processor, as [`ContextFlagsCpu`](super::ContextFlagsCpu) names it, and which registers
     /// are set.

@@ -1,4 +1,5 @@
 use crate::copies::{code_id, context, copy};
+use crate::lookup::hits;
 use crate::prints::{
     handles, infos, maps, memory_texts, memory64_regions, new_modules, thread_infos,
 };
@@ -24,6 +25,8 @@ pub enum Call {
     Maps,
     Handles,
     ThreadInfos,
+    Lookup,
+    List,
 }
 
 /// Each call by its name.
@@ -51,6 +54,8 @@ pub const CALLS: &[(&str, Call)] = &[
     ("maps", Call::Maps),
     ("handles", Call::Handles),
     ("thread-infos", Call::ThreadInfos),
+    ("lookup", Call::Lookup),
+    ("list", Call::List),
 ];
 
 /// Makes a call. What it prints is dropped.
@@ -70,5 +75,16 @@ pub fn make(world: &World<'_>, call: Call) -> Result<(), Error> {
         Call::Maps => maps(world, out),
         Call::Handles => handles(world, out),
         Call::ThreadInfos => thread_infos(world, out),
+        Call::Lookup => lookups(world, "lookup"),
+        Call::List => lookups(world, "list"),
+    }
+}
+
+// Looks up a million addresses, of which 500650 lie in a range: half of the span is ranges, and the
+// addresses are always the same. Another number is an error.
+fn lookups(world: &World<'_>, verb: &str) -> Result<(), Error> {
+    match hits(world.alloc, verb, 1000, 1)? {
+        500650 => Ok(()),
+        _ => Err(Error::DataError),
     }
 }

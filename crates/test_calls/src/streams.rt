@@ -9,7 +9,7 @@ use std::alloc::Global;
 /// Reads a minidump, whose bytes are `bytes`, or the stream that a verb names, so many times.
 /// Returns how often a list has an entry of number or address 65536; for `read`, how many headers
 /// have 65536 streams.
-pub(crate) fn read_often(alloc: Global, verb: &str, bytes: &[u8], rounds: u32) -> Result<u32> {
+pub fn read_often(alloc: Global, verb: &str, bytes: &[u8], rounds: u32) -> Result<u32> {
     let dump = Minidump::read(alloc, bytes)?;
     let found = match verb {
         "read" => read_dump(alloc, bytes, rounds)?,
@@ -29,11 +29,17 @@ pub(crate) fn read_often(alloc: Global, verb: &str, bytes: &[u8], rounds: u32) -
 fn read_dump(alloc: Global, bytes: &[u8], rounds: u32) -> Result<u32, Error> {
     let mut found = 0u32;
     for _ in 0..rounds {
-        if Minidump::read(alloc, bytes)?.header.stream_count == 65536 {
+        if has_streams(alloc, bytes)? {
             found = found.wrapping_add(1);
         }
     }
     Ok(found)
+}
+
+// Reads a dump, and tells whether it has 65536 streams.
+fn has_streams(alloc: Global, bytes: &[u8]) -> Result<bool, Error> {
+    let dump = Minidump::read(alloc, bytes)?;
+    Ok(dump.header.stream_count == 65536)
 }
 
 // Reads a stream of a dump so many times.

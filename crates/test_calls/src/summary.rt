@@ -1,22 +1,10 @@
-//! `print_summary FILE..`, which prints the summary of each crash: an example of a caller of
-//! `crash_summary`.
-#![tactic(auto)]
-
 use anyhow::Result;
 use crash_summary::{CrashSummary, summarise};
 use minidump::CodeNames;
-use std::{env, fs};
+use std::fs;
 
-fn main(rt: HostRuntime) -> Result<()> {
-    let words: Vec<String> = env::args(&rt)?.collect(rt.alloc())?;
-    for path in words.iter().skip(1) {
-        print_file(&rt, path.as_str())?;
-    }
-    Ok(())
-}
-
-// Prints the summary of the crash in a file.
-fn print_file(rt: &HostRuntime, path: &str) -> Result<()> {
+/// Prints the summary of the crash in a file.
+pub fn print_file(rt: &HostRuntime, path: &str) -> Result<()> {
     let bytes = fs::read(rt, path)?;
     let crash = summarise(rt.alloc(), &bytes, &CodeNames::empty())?;
     print_crash(rt, &crash)

@@ -27,12 +27,22 @@ pub fn memory_texts(world: &World<'_>, out: &mut Told<Sink>) -> Result<(), Error
 /// Prints each region of the 64-bit list as one of either type, and a list of copies of them.
 pub fn memory64_regions<'a>(world: &World<'a>, out: &mut Told<Sink>) -> Result<(), Error> {
     let list = stream::<MinidumpMemory64List<'a>>(world)?;
-    let mut regions = Vec::new(world.alloc);
     for region in list.iter() {
         put_either(world, &UnifiedMemory::Memory64(region), out)?;
+    }
+    copy_of(world, &list)?.print(world.alloc, out, false)
+}
+
+// Makes a list of copies of the regions of a list.
+fn copy_of<'a>(
+    world: &World<'a>,
+    list: &MinidumpMemory64List<'a>,
+) -> Result<MinidumpMemory64List<'a>, Error> {
+    let mut regions = Vec::new(world.alloc);
+    for region in list.iter() {
         regions.push(region.clone()?)?;
     }
-    MinidumpMemory64List::from_regions(world.alloc, regions)?.print(world.alloc, out, false)
+    MinidumpMemory64List::from_regions(world.alloc, regions)
 }
 
 fn put_either(

@@ -1,21 +1,19 @@
 ghost use Rattle.std.specs.Prelude.{◌≡◌, IfOk, length};
 
-use anyhow::Result;
+use minidump::Error;
 use minidump_bytes::Steps;
 use minidump_index::{AddressIndex, Range, Region, RegionList};
 use std::alloc::{AllocError, Global};
 
-/// Makes an index of `count` ranges, and looks up a million addresses in each round. Returns how
-/// many lookups found a range.
-pub(crate) fn hits_in_index(alloc: Global, count: u32, rounds: u32) -> Result<u64> {
-    let index = AddressIndex::build(alloc, &ranges(alloc, count)?)?;
-    Ok(hits(&index, &addresses(alloc, count)?, rounds))
-}
-
-/// Does the same with a list of `count` ranges that ascend.
-pub(crate) fn hits_in_list(alloc: Global, count: u32, rounds: u32) -> Result<u64> {
-    let list = RegionList::from_regions(alloc, ranges(alloc, count)?)?;
-    Ok(hits(&list, &addresses(alloc, count)?, rounds))
+/// Makes an index of `count` ranges, or for the verb `list` a list of ranges that ascend, and looks
+/// up a million addresses in each round. Returns how many lookups found a range.
+pub fn hits(alloc: Global, verb: &str, count: u32, rounds: u32) -> Result<u64, Error> {
+    let (ranges, asked) = (ranges(alloc, count)?, addresses(alloc, count)?);
+    if verb == "list" {
+        let list = RegionList::from_regions(alloc, ranges)?;
+        return Ok(hits_in(&list, &asked, rounds));
+    }
+    Ok(hits_in(&AddressIndex::build(alloc, &ranges)?, &asked, rounds))
 }
 
 // What tells whether one of its ranges contains an address.
@@ -68,7 +66,7 @@ fn addresses(alloc: Global, count: u32) -> Result<Vec<u64>, AllocError>
 }
 
 // Counts the addresses that lie in a range, so many times.
-fn hits<L: Lookup>(ranges: &L, asked: &[u64], rounds: u32) -> u64 {
+fn hits_in<L: Lookup>(ranges: &L, asked: &[u64], rounds: u32) -> u64 {
     let mut hits = 0u64;
     for _ in 0..rounds {
         for address in asked {
