@@ -9,7 +9,12 @@ use crate::crash::print_crash;
 use crate::section::{print_error, print_unread};
 use crate::shared::SharedStreams;
 use crate::{
-    Minidump, MinidumpMacBootargs, MinidumpSoftErrors, MinidumpThreadList, StabilityReport,
+    Minidump, MinidumpAssertion, MinidumpBreakpadInfo, MinidumpCrashpadInfo, MinidumpException,
+    MinidumpHandleDataStream, MinidumpLinuxCpuInfo, MinidumpLinuxEnviron, MinidumpLinuxLsbRelease,
+    MinidumpLinuxMaps, MinidumpLinuxProcLimits, MinidumpLinuxProcStatus, MinidumpMacBootargs,
+    MinidumpMacCrashInfo, MinidumpMemory64List, MinidumpMemoryInfoList, MinidumpMemoryList,
+    MinidumpMiscInfo, MinidumpModuleList, MinidumpSoftErrors, MinidumpThreadInfoList,
+    MinidumpThreadList, MinidumpThreadNames, MinidumpUnloadedModuleList, StabilityReport,
     each_stream,
 };
 use minidump_bytes::Told;
@@ -128,7 +133,6 @@ macro_rules! read_and_print {
     }};
 }
 
-#[tactic(auto, using(crate::proofs::ReportLemmas::section_unread))]
 fn print_section<W: Write>(
     section: Section,
     dump: &Minidump<'_>,
@@ -139,43 +143,33 @@ fn print_section<W: Write>(
     requires { AreShared (dump_of dump.now) streams.now }
     ensures { Prints W.contents f.old f.new (section_text (dump_of dump.now) section) result }
 {
-    macro_rules! print_arm {
-        (SystemInfoStream, $type:ty) => {
-            print_system_info(dump, alloc, f)
-        };
-        (ExceptionStream, $type:ty) => {
-            print_stream!($type, streams.exception, section, dump, alloc, f, dump.system_info(), None)
-        };
-        (ThreadListStream, $type:ty) => {
-            print_threads(dump, streams, alloc, f)
-        };
-        (Memory64ListStream, $type:ty) => {
-            print_stream!($type, streams.memory64, section, dump, alloc, f, true)
-        };
-        (MemoryListStream, $type:ty) => {
-            print_stream!($type, streams.memory, section, dump, alloc, f, true)
-        };
-        (MozMacosBootargsStream, $type:ty) => {
-            print_boot_args(dump, alloc, f)
-        };
-        (MozSoftErrors, $type:ty) => {
-            print_soft_errors(dump, alloc, f)
-        };
-        (StabilityReportStream, $type:ty) => {
-            print_stability_report(dump, alloc, f)
-        };
-        ($name:ident, $type:ty) => {
-            print_stream!($type, dump.get_stream::<$type>(alloc), section, dump, alloc, f)
-        };
+    match section {
+        Section::SystemInfoStream => print_system_info(dump, alloc, f),
+        Section::MiscInfoStream => print_misc_info(dump, alloc, f),
+        Section::ExceptionStream => print_exception(dump, streams, alloc, f),
+        Section::ThreadListStream => print_threads(dump, streams, alloc, f),
+        Section::ThreadNamesStream => print_thread_names(dump, alloc, f),
+        Section::ThreadInfoListStream => print_thread_infos(dump, alloc, f),
+        Section::ModuleListStream => print_modules(dump, alloc, f),
+        Section::UnloadedModuleListStream => print_unloaded_modules(dump, alloc, f),
+        Section::Memory64ListStream => print_memory64_list(dump, streams, alloc, f),
+        Section::MemoryListStream => print_memory_list(dump, streams, alloc, f),
+        Section::MemoryInfoListStream => print_memory_infos(dump, alloc, f),
+        Section::LinuxMaps => print_maps(dump, alloc, f),
+        Section::HandleDataStream => print_handles(dump, alloc, f),
+        Section::BreakpadInfoStream => print_breakpad_info(dump, alloc, f),
+        Section::AssertionInfoStream => print_assertion(dump, alloc, f),
+        Section::CrashpadInfoStream => print_crashpad_info(dump, alloc, f),
+        Section::MozMacosCrashInfoStream => print_mac_crash_info(dump, alloc, f),
+        Section::MozMacosBootargsStream => print_boot_args(dump, alloc, f),
+        Section::LinuxCpuInfo => print_cpu_info(dump, alloc, f),
+        Section::LinuxProcStatus => print_proc_status(dump, alloc, f),
+        Section::LinuxLsbRelease => print_lsb_release(dump, alloc, f),
+        Section::LinuxEnviron => print_environ(dump, alloc, f),
+        Section::MozLinuxLimits => print_proc_limits(dump, alloc, f),
+        Section::MozSoftErrors => print_soft_errors(dump, alloc, f),
+        Section::StabilityReportStream => print_stability_report(dump, alloc, f),
     }
-    macro_rules! print_arms {
-        ($($name:ident: $type:ty, $reads:ident;)*) => {
-            match section {
-                $(Section::$name => print_arm!($name, $type),)*
-            }
-        };
-    }
-    each_stream!(print_arms)
 }
 
 // Prints the system information as the dump has it: it was read with the dump.
@@ -193,6 +187,80 @@ fn print_system_info<W: Write>(
     }
 }
 
+// Prints the exception.
+#[tactic(auto, using(crate::proofs::ReportLemmas::section_unread))]
+fn print_exception<W: Write>(
+    dump: &Minidump<'_>,
+    streams: &SharedStreams<'_>,
+    alloc: Global,
+    f: &mut Told<W>,
+) -> Result<(), Error>
+    requires { AreShared (dump_of dump.now) streams.now }
+    ensures { Prints W.contents f.old f.new
+        (section_text (dump_of dump.now) Section.ExceptionStream) result }
+{
+    let section = Section::ExceptionStream;
+    print_stream!(
+        MinidumpException,
+        streams.exception,
+        section,
+        dump,
+        alloc,
+        f,
+        dump.system_info(),
+        None
+    )
+}
+
+// Prints the 64-bit list of memory, without its bytes.
+#[tactic(auto, using(crate::proofs::ReportLemmas::section_unread))]
+fn print_memory64_list<W: Write>(
+    dump: &Minidump<'_>,
+    streams: &SharedStreams<'_>,
+    alloc: Global,
+    f: &mut Told<W>,
+) -> Result<(), Error>
+    requires { AreShared (dump_of dump.now) streams.now }
+    ensures { Prints W.contents f.old f.new
+        (section_text (dump_of dump.now) Section.Memory64ListStream) result }
+{
+    let section = Section::Memory64ListStream;
+    print_stream!(
+        MinidumpMemory64List,
+        streams.memory64,
+        section,
+        dump,
+        alloc,
+        f,
+        true
+    )
+}
+
+// Prints the list of memory, without its bytes.
+#[tactic(auto, using(crate::proofs::ReportLemmas::section_unread))]
+fn print_memory_list<W: Write>(
+    dump: &Minidump<'_>,
+    streams: &SharedStreams<'_>,
+    alloc: Global,
+    f: &mut Told<W>,
+) -> Result<(), Error>
+    requires { AreShared (dump_of dump.now) streams.now }
+    ensures { Prints W.contents f.old f.new
+        (section_text (dump_of dump.now) Section.MemoryListStream) result }
+{
+    let section = Section::MemoryListStream;
+    print_stream!(
+        MinidumpMemoryList,
+        streams.memory,
+        section,
+        dump,
+        alloc,
+        f,
+        true
+    )
+}
+
+// Prints the threads with their stacks.
 #[tactic(auto, using(crate::proofs::ReportLemmas::section_unread))]
 fn print_threads<W: Write>(
     dump: &Minidump<'_>,
@@ -212,6 +280,223 @@ fn print_threads<W: Write>(
         },
         Err(error) => print_unread::<MinidumpThreadList, W>(section, dump, *error, alloc, f),
     }
+}
+
+// Prints the misc information.
+#[tactic(auto, using(crate::proofs::ReportLemmas::section_unread))]
+fn print_misc_info<W: Write>(
+    dump: &Minidump<'_>,
+    alloc: Global,
+    f: &mut Told<W>,
+) -> Result<(), Error>
+    ensures { Prints W.contents f.old f.new
+        (section_text (dump_of dump.now) Section.MiscInfoStream) result }
+{
+    read_and_print!(MiscInfoStream, MinidumpMiscInfo, dump, alloc, f)
+}
+
+// Prints the names of threads.
+#[tactic(auto, using(crate::proofs::ReportLemmas::section_unread))]
+fn print_thread_names<W: Write>(
+    dump: &Minidump<'_>,
+    alloc: Global,
+    f: &mut Told<W>,
+) -> Result<(), Error>
+    ensures { Prints W.contents f.old f.new
+        (section_text (dump_of dump.now) Section.ThreadNamesStream) result }
+{
+    read_and_print!(ThreadNamesStream, MinidumpThreadNames, dump, alloc, f)
+}
+
+// Prints the information on threads.
+#[tactic(auto, using(crate::proofs::ReportLemmas::section_unread))]
+fn print_thread_infos<W: Write>(
+    dump: &Minidump<'_>,
+    alloc: Global,
+    f: &mut Told<W>,
+) -> Result<(), Error>
+    ensures { Prints W.contents f.old f.new
+        (section_text (dump_of dump.now) Section.ThreadInfoListStream) result }
+{
+    read_and_print!(ThreadInfoListStream, MinidumpThreadInfoList, dump, alloc, f)
+}
+
+// Prints the modules.
+#[tactic(auto, using(crate::proofs::ReportLemmas::section_unread))]
+fn print_modules<W: Write>(dump: &Minidump<'_>, alloc: Global, f: &mut Told<W>) -> Result<(), Error>
+    ensures { Prints W.contents f.old f.new
+        (section_text (dump_of dump.now) Section.ModuleListStream) result }
+{
+    read_and_print!(ModuleListStream, MinidumpModuleList, dump, alloc, f)
+}
+
+// Prints the unloaded modules.
+#[tactic(auto, using(crate::proofs::ReportLemmas::section_unread))]
+fn print_unloaded_modules<W: Write>(
+    dump: &Minidump<'_>,
+    alloc: Global,
+    f: &mut Told<W>,
+) -> Result<(), Error>
+    ensures { Prints W.contents f.old f.new
+        (section_text (dump_of dump.now) Section.UnloadedModuleListStream) result }
+{
+    read_and_print!(
+        UnloadedModuleListStream,
+        MinidumpUnloadedModuleList,
+        dump,
+        alloc,
+        f
+    )
+}
+
+// Prints the information on memory.
+#[tactic(auto, using(crate::proofs::ReportLemmas::section_unread))]
+fn print_memory_infos<W: Write>(
+    dump: &Minidump<'_>,
+    alloc: Global,
+    f: &mut Told<W>,
+) -> Result<(), Error>
+    ensures { Prints W.contents f.old f.new
+        (section_text (dump_of dump.now) Section.MemoryInfoListStream) result }
+{
+    read_and_print!(MemoryInfoListStream, MinidumpMemoryInfoList, dump, alloc, f)
+}
+
+// Prints the maps of Linux.
+#[tactic(auto, using(crate::proofs::ReportLemmas::section_unread))]
+fn print_maps<W: Write>(dump: &Minidump<'_>, alloc: Global, f: &mut Told<W>) -> Result<(), Error>
+    ensures { Prints W.contents f.old f.new
+        (section_text (dump_of dump.now) Section.LinuxMaps) result }
+{
+    read_and_print!(LinuxMaps, MinidumpLinuxMaps, dump, alloc, f)
+}
+
+// Prints the handles.
+#[tactic(auto, using(crate::proofs::ReportLemmas::section_unread))]
+fn print_handles<W: Write>(dump: &Minidump<'_>, alloc: Global, f: &mut Told<W>) -> Result<(), Error>
+    ensures { Prints W.contents f.old f.new
+        (section_text (dump_of dump.now) Section.HandleDataStream) result }
+{
+    read_and_print!(HandleDataStream, MinidumpHandleDataStream, dump, alloc, f)
+}
+
+// Prints Breakpad's information.
+#[tactic(auto, using(crate::proofs::ReportLemmas::section_unread))]
+fn print_breakpad_info<W: Write>(
+    dump: &Minidump<'_>,
+    alloc: Global,
+    f: &mut Told<W>,
+) -> Result<(), Error>
+    ensures { Prints W.contents f.old f.new
+        (section_text (dump_of dump.now) Section.BreakpadInfoStream) result }
+{
+    read_and_print!(BreakpadInfoStream, MinidumpBreakpadInfo, dump, alloc, f)
+}
+
+// Prints the assertion.
+#[tactic(auto, using(crate::proofs::ReportLemmas::section_unread))]
+fn print_assertion<W: Write>(
+    dump: &Minidump<'_>,
+    alloc: Global,
+    f: &mut Told<W>,
+) -> Result<(), Error>
+    ensures { Prints W.contents f.old f.new
+        (section_text (dump_of dump.now) Section.AssertionInfoStream) result }
+{
+    read_and_print!(AssertionInfoStream, MinidumpAssertion, dump, alloc, f)
+}
+
+// Prints Crashpad's information.
+#[tactic(auto, using(crate::proofs::ReportLemmas::section_unread))]
+fn print_crashpad_info<W: Write>(
+    dump: &Minidump<'_>,
+    alloc: Global,
+    f: &mut Told<W>,
+) -> Result<(), Error>
+    ensures { Prints W.contents f.old f.new
+        (section_text (dump_of dump.now) Section.CrashpadInfoStream) result }
+{
+    read_and_print!(CrashpadInfoStream, MinidumpCrashpadInfo, dump, alloc, f)
+}
+
+// Prints the crash information of macOS.
+#[tactic(auto, using(crate::proofs::ReportLemmas::section_unread))]
+fn print_mac_crash_info<W: Write>(
+    dump: &Minidump<'_>,
+    alloc: Global,
+    f: &mut Told<W>,
+) -> Result<(), Error>
+    ensures { Prints W.contents f.old f.new
+        (section_text (dump_of dump.now) Section.MozMacosCrashInfoStream) result }
+{
+    read_and_print!(
+        MozMacosCrashInfoStream,
+        MinidumpMacCrashInfo,
+        dump,
+        alloc,
+        f
+    )
+}
+
+// Prints the information of Linux on processors.
+#[tactic(auto, using(crate::proofs::ReportLemmas::section_unread))]
+fn print_cpu_info<W: Write>(
+    dump: &Minidump<'_>,
+    alloc: Global,
+    f: &mut Told<W>,
+) -> Result<(), Error>
+    ensures { Prints W.contents f.old f.new
+        (section_text (dump_of dump.now) Section.LinuxCpuInfo) result }
+{
+    read_and_print!(LinuxCpuInfo, MinidumpLinuxCpuInfo, dump, alloc, f)
+}
+
+// Prints the status of a process of Linux.
+#[tactic(auto, using(crate::proofs::ReportLemmas::section_unread))]
+fn print_proc_status<W: Write>(
+    dump: &Minidump<'_>,
+    alloc: Global,
+    f: &mut Told<W>,
+) -> Result<(), Error>
+    ensures { Prints W.contents f.old f.new
+        (section_text (dump_of dump.now) Section.LinuxProcStatus) result }
+{
+    read_and_print!(LinuxProcStatus, MinidumpLinuxProcStatus, dump, alloc, f)
+}
+
+// Prints the release of Linux.
+#[tactic(auto, using(crate::proofs::ReportLemmas::section_unread))]
+fn print_lsb_release<W: Write>(
+    dump: &Minidump<'_>,
+    alloc: Global,
+    f: &mut Told<W>,
+) -> Result<(), Error>
+    ensures { Prints W.contents f.old f.new
+        (section_text (dump_of dump.now) Section.LinuxLsbRelease) result }
+{
+    read_and_print!(LinuxLsbRelease, MinidumpLinuxLsbRelease, dump, alloc, f)
+}
+
+// Prints the environment of a process of Linux.
+#[tactic(auto, using(crate::proofs::ReportLemmas::section_unread))]
+fn print_environ<W: Write>(dump: &Minidump<'_>, alloc: Global, f: &mut Told<W>) -> Result<(), Error>
+    ensures { Prints W.contents f.old f.new
+        (section_text (dump_of dump.now) Section.LinuxEnviron) result }
+{
+    read_and_print!(LinuxEnviron, MinidumpLinuxEnviron, dump, alloc, f)
+}
+
+// Prints the limits of a process of Linux.
+#[tactic(auto, using(crate::proofs::ReportLemmas::section_unread))]
+fn print_proc_limits<W: Write>(
+    dump: &Minidump<'_>,
+    alloc: Global,
+    f: &mut Told<W>,
+) -> Result<(), Error>
+    ensures { Prints W.contents f.old f.new
+        (section_text (dump_of dump.now) Section.MozLinuxLimits) result }
+{
+    read_and_print!(MozLinuxLimits, MinidumpLinuxProcLimits, dump, alloc, f)
 }
 
 // Prints the boot arguments of macOS.

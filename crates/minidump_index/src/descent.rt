@@ -8,23 +8,22 @@
 //! - Entries have 16 bytes where all ranges of the list fit ([`Small`](crate::stored::Small)), so
 //!   four stand in a cache line. Entries of 24 bytes ([`Wide`](crate::stored::Wide)) take a tenth
 //!   longer at 1,000 regions, and a third longer from 100,000 on.
-//! - Entries three levels below are read in advance (`bits_below`), so that they come from memory
+//! - Entries three levels below are read in advance (`bits_ahead`), so that they come from memory
 //!   while the levels between are compared. It costs up to 4 ns below 10,000 regions, and saves a
 //!   quarter at 100,000 and almost half at a million.
-ghost use Rattle.std.specs.Prelude.{◌≡◌, ◌+◌, ◌*◌, ◌^◌, ◌<◌, ◌≤◌, true, length, map};
+ghost use Rattle.std.specs.Prelude.{◌≡◌, ◌+◌, ◌-◌, ◌*◌, ◌^◌, ◌<◌, ◌≤◌, Some, true, length, map, slice_get};
 ghost use Rattle.minidump_bytes.specs.Steps.{after};
+ghost use Rattle.minidump_index.specs.declared.index.Entry.{Entry};
 ghost use Rattle.minidump_index.specs.Digits.{digits};
 ghost use Rattle.minidump_index.specs.Kept.{IsFound};
-ghost use Rattle.minidump_index.specs.Tree.{IsSearchTree, walk};
+ghost use Rattle.minidump_index.specs.Tree.{GoesOn, IsSearchTree, walk};
 
 use crate::Range;
 use crate::tree::Stored;
 use minidump_bytes::{Steps, probe};
 use std::cmp::Ordering;
 
-// Compares the address with the range of the entry numbered `number`. Returns the number to go on
-// at, the number where the lookup last went to the right, and whether a range that contains the
-// address was met.
+// Compares the address with the range of the entry numbered `number`. Returns what `descend` does.
 #[inline(always)]
 fn below(
     range: Range,
@@ -51,9 +50,40 @@ fn below(
     )
 }
 
-// Reads two of the eight entries three levels below a number, or the last entry where the tree ends
-// before them. Returns a number below 2^31 that depends on both. The numbers of their slots may
-// wrap: then it reads other entries.
+// Goes on from the entry numbered `number`. Returns the number to go on at, the number where the
+// lookup last went to the right, and whether a range that contains the address was met.
+#[inline(always)]
+fn descend<S: Stored>(
+    tree: &[S],
+    number: usize,
+    found: usize,
+    inside: bool,
+    address: u64,
+    steps: &mut Steps,
+) -> (usize, usize, bool)
+    requires few { length tree.now < 2 ^ 63 }
+    requires first { 0 < number }
+    requires last { number ≤ length tree.now }
+    ensures next { (e : Entry) × (slice_get (map S.value tree.now) (number - 1) ≡ Some e)
+        × GoesOn e.range address number found inside result }
+    ensures step { steps.new ≡ after steps.old 1 }
+{
+    let range = tree[number - 1].entry().range;
+    below(range, number, found, inside, address, steps)
+}
+
+// Reads two of the eight entries three levels below a number. Returns a number below 2^31 that
+// depends on both.
+#[inline(always)]
+fn bits_ahead<S: Stored>(tree: &[S], number: usize) -> u32
+    requires { 8 * number + 4 < length tree.now }
+    ensures { result < 2 ^ 31 }
+{
+    tree[8 * number].bits() & tree[8 * number + 4].bits()
+}
+
+// Reads the same two entries, or the last entry where the tree ends before them. The numbers of
+// their slots may wrap: then it reads other entries.
 #[inline(always)]
 fn bits_below<S: Stored>(tree: &[S], number: usize) -> u32
     requires { 0 < length tree.now }
@@ -91,20 +121,13 @@ pub fn find<S: Stored>(tree: &[S], address: u64, steps: &mut Steps) -> Option<us
     let mut found = 1;
     let mut inside = false;
     while first <= len / 16 {
-        ahead &= tree[8 * number].bits() & tree[8 * number + 4].bits();
-        let range = tree[number - 1].entry().range;
-        (number, found, inside) = below(range, number, found, inside, address, steps);
+        ahead &= bits_ahead(tree, number);
+        (number, found, inside) = descend(tree, number, found, inside, address, steps);
         first *= 2;
     }
     ahead &= bits_below(tree, number);
-    while first <= len / 2 {
-        let range = tree[number - 1].entry().range;
-        (number, found, inside) = below(range, number, found, inside, address, steps);
-        first *= 2;
-    }
-    if number <= len {
-        let range = tree[number - 1].entry().range;
-        (_, found, inside) = below(range, number, found, inside, address, steps);
+    while number <= len {
+        (number, found, inside) = descend(tree, number, found, inside, address, steps);
     }
     if inside && ahead < 1 << 31 {
         Some(tree[found - 1].entry().index)

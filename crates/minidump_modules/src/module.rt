@@ -217,23 +217,23 @@ impl Module for MinidumpModule {
         let raw = &self.raw;
         let id = match self.code_source() {
             Some(CodeSource::Stamp) => {
-                CodeId::from_stamp(alloc, raw.time_date_stamp, raw.size_of_image)?
+                CodeId::from_stamp(alloc, raw.time_date_stamp, raw.size_of_image)
             }
-            Some(CodeSource::Guid(guid)) => CodeId::from_binary(alloc, &guid)?,
-            Some(CodeSource::BuildId(id)) => CodeId::from_binary(alloc, id)?,
+            Some(CodeSource::Guid(guid)) => CodeId::from_binary(alloc, &guid),
+            Some(CodeSource::BuildId(id)) => CodeId::from_binary(alloc, id),
             None => return Ok(None),
         };
-        Ok(Some(id))
+        Ok(Some(id?))
     }
 
     fn debug_file(&self, alloc: Global) -> Result<Option<String>, Error> {
         let name = match &self.codeview_info {
-            Some(CodeView::Pdb70(record)) => lossy_name(alloc, &record.pdb_file_name)?,
-            Some(CodeView::Pdb20(record)) => lossy_name(alloc, &record.pdb_file_name)?,
-            Some(CodeView::Elf(_)) => String::from_str(alloc, self.name.as_str())?,
+            Some(CodeView::Pdb70(record)) => lossy_name(alloc, &record.pdb_file_name),
+            Some(CodeView::Pdb20(record)) => lossy_name(alloc, &record.pdb_file_name),
+            Some(CodeView::Elf(_)) => String::from_str(alloc, self.name.as_str()),
             Some(CodeView::Unknown(_)) | None => return Ok(None),
         };
-        Ok(Some(name))
+        Ok(Some(name?))
     }
 
     fn debug_identifier(&self) -> Option<DebugId> {

@@ -7,7 +7,7 @@ use minidump_system::{Cpu, Os};
 
 /// The reason of a crash, as codes. [`CrashReason::text`] returns its text,
 /// [`CrashReason::write_to`] writes it.
-#[derive(Clone, Copy, Debug, PartialEq, Eq)]
+#[derive(Clone, Copy, PartialEq, Eq)]
 pub enum CrashReason {
     /// An exception on macOS or iOS: its code and flags.
     MacGeneral(u32, u32),

@@ -1,5 +1,4 @@
--- The head, the line, the bytes and the empty line go out one after another.
-use Rattle.std.proofs.Common.{codes}
+-- The head, and then the rest.
 use Rattle.minidump_format.proofs.Printing.{prints_exit, prints_then}
 use Rattle.minidump_memory.proofs.memory_print.print_region.Goals as goal
 
@@ -9,22 +8,5 @@ returns-in_err-print_item g c = prints_exit _ _ _ _ _ _ _ c.from_residual.ensure
 pub returns-then-brief : goal.returns-then-brief
 returns-then-brief g c = rw c.if-brief.true (prints_then _ _ _ _ _ _ _ c.in_ok-print_item.ensures c.print_line_end.ensures.prints)
 
-pub returns-in_err-put_text : goal.returns-in_err-put_text
-returns-in_err-put_text g c =
-    rw c.if-brief.false
-    (prints_then _ _ _ _ _ _ _ c.in_ok-print_item.ensures
-    (prints_exit _ _ _ (codes "Memory\n") _ _ _ c.from_residual-in_err-put_text.ensures.1 c.in_err-put_text.ensures.prints))
-
-pub returns-in_err-print_bytes : goal.returns-in_err-print_bytes
-returns-in_err-print_bytes g c =
-    rw c.if-brief.false
-    (prints_then _ _ _ _ _ _ _ c.in_ok-print_item.ensures
-    (prints_then _ _ _ _ (codes "Memory\n") _ _ c.in_ok-put_text.ensures.prints
-    (prints_exit _ _ _ _ _ _ _ c.from_residual-in_err-print_bytes.ensures.1 c.in_err-print_bytes.ensures)))
-
 pub returns : goal.returns
-returns g c =
-    rw c.if-brief.false
-    (prints_then _ _ _ _ _ _ _ c.in_ok-print_item.ensures
-    (prints_then _ _ _ _ (codes "Memory\n") _ _ c.in_ok-put_text.ensures.prints
-    (prints_then _ _ _ _ _ _ _ c.in_ok-print_bytes.ensures c.print_line_end-2.ensures.prints)))
+returns g c = rw c.if-brief.false (prints_then _ _ _ _ _ _ _ c.in_ok-print_item.ensures c.print_memory_lines.ensures)
