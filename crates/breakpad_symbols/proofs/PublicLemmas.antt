@@ -1,7 +1,7 @@
 -- Public symbols and beginnings of functions, found by their addresses.
 use Rattle.std.proofs.Common.{◌≡◌, ◌<◌, ◌≤◌, ◌+◌, ◌∙◌, ℕ, zero, suc, Bool, true, false, List, [], ◌∷◌, map, Option, Some, None, refl, ap, sym, inl}
 use Rattle.std.proofs.Common.{inr, arith, cond, subst}
-use Rattle.std.specs.Prelude.{◌==◌, ◌||◌, Contains, nat_le, nat_lt, not, IsSome}
+use Rattle.std.specs.Prelude.{◌==◌, ◌&&◌, ◌||◌, Contains, nat_le, nat_lt, not, IsSome}
 use Rattle.std.specs.List.{find, list_any}
 use Rattle.std.specs.Option.{option_map}
 use Rattle.std.proofs.lemmas.Bool.{cases_eq, cases_lt, eq-eqb, le-leb, leb-true, lt-leb, lt-ltb, ltb-true, le-ltb, ne_eqb}
@@ -46,28 +46,40 @@ module _ {R : Type 0} (number_of : R → ℕ) where
   abbrev Highest : ℕ → ℕ → List R → Type 0
   Highest low high xs = (q : ℕ) → q ≤ high → IsSome (find (λ r. number_of r == q) xs) → q ≤ low
 
-  between_by : (low high q : ℕ) (xs : List R) → low < q → q ≤ high → IsSome (find (λ r. number_of r == q) xs) → any_between low high xs ≡ true
-  between_by low high q [] over below there = absurd (let k : false ≡ true = there in cc)
-  between_by low high q (x ∷ xs) over below there = elim (cases_eq (number_of x) q) [
+  -- a number of the list passes a test, and is not above another
+  abbrev any_below : (ℕ → Bool) → ℕ → List R → Bool
+  any_below passes high xs = list_any (λ r. passes (number_of r) && nat_le (number_of r) high) xs
+
+  below_by : (passes : ℕ → Bool) (high q : ℕ) (xs : List R) → passes q ≡ true → q ≤ high → IsSome (find (λ r. number_of r == q) xs)
+      → any_below passes high xs ≡ true
+  below_by passes high q [] over below there = absurd (let k : false ≡ true = there in cc)
+  below_by passes high q (x ∷ xs) over below there = elim (cases_eq (number_of x) q) [
     | inl is ↦
-        let a : low < number_of x = omega (arith, over, is) in
+        let a : passes (number_of x) ≡ true = subst (λ n. passes n ≡ true) (sym is) over in
         let b : number_of x ≤ high = omega (arith, below, is) in
-        rw (lt-ltb _ _ a, le-leb _ _ b) refl
+        rw (a, le-leb _ _ b) refl
     | inr not ↦
         let more : IsSome (find (λ r. number_of r == q) xs) = (rw (ne_eqb (number_of x) q not) at there) in
-        rw (between_by low high q xs over below more) (or_true (is_between low high (number_of x)))
+        rw (below_by passes high q xs over below more) (or_true (passes (number_of x) && nat_le (number_of x) high))
   ]
 
-  none_between : (low high : ℕ) (xs : List R) → Highest low high xs → any_between low high xs ≡ false
-  none_between low high [] h = refl
-  none_between low high (x ∷ xs) h =
-      let more = none_between low high xs (λ q below there. h q below (found_tail x xs q there)) in
+  none_below : (passes : ℕ → Bool) (high : ℕ) (xs : List R)
+      → ((q : ℕ) → q ≤ high → IsSome (find (λ r. number_of r == q) xs) → passes q ≡ false) → any_below passes high xs ≡ false
+  none_below passes high [] h = refl
+  none_below passes high (x ∷ xs) h =
+      let more = none_below passes high xs (λ q below there. h q below (found_tail x xs q there)) in
       elim (cases_lt high (number_of x)) [
-        | inl above ↦ rw (lt-leb _ _ above, and_false (nat_lt low (number_of x)), more) refl
+        | inl above ↦ rw (lt-leb _ _ above, and_false (passes (number_of x)), more) refl
         | inr below ↦
             let least = h (number_of x) below (some_is _ x (found_head x xs)) in
-            rw (le-ltb _ _ least, more) refl
+            rw (least, more) refl
       ]
+
+  between_by : (low high q : ℕ) (xs : List R) → low < q → q ≤ high → IsSome (find (λ r. number_of r == q) xs) → any_between low high xs ≡ true
+  between_by low high q xs over below there = below_by (λ n. nat_lt low n) high q xs (lt-ltb _ _ over) below there
+
+  none_between : (low high : ℕ) (xs : List R) → Highest low high xs → any_between low high xs ≡ false
+  none_between low high xs h = none_below (λ n. nat_lt low n) high xs (λ q below there. le-ltb _ _ (h q below there))
 
   highest : (low high : ℕ) (xs : List R) → any_between low high xs ≡ false → Highest low high xs
   highest low high xs none q below there = elim (cases_lt low q) [
@@ -191,23 +203,27 @@ abbrev any_parts : ℕ → ℕ → List Function → Bool
 any_parts symbol address fs = list_any (parts symbol address) (map function_of fs)
 
 -- functions part a symbol from an address by where they begin
-by_beginnings : (symbol address : ℕ) (fs : List Function) → any_parts symbol address fs ≡ any_between (λ n. n) symbol address (map begins fs)
+by_beginnings : (symbol address : ℕ) (fs : List Function)
+    → any_parts symbol address fs ≡ any_below (λ n. n) (λ n. nat_le symbol n) address (map begins fs)
 by_beginnings symbol address [] = refl
-by_beginnings symbol address (f ∷ fs) = ap (λ b. is_between symbol address f.address || b) (by_beginnings symbol address fs)
+by_beginnings symbol address (f ∷ fs) =
+    ap (λ b. (nat_le symbol f.address && nat_le f.address address) || b) (by_beginnings symbol address fs)
 
 pub parted_by : (symbol address start : ℕ) (fs : List Function) → IsNearestNumber (λ (n : ℕ). n) (map begins fs) address start
-    → any_parts symbol address fs ≡ nat_lt symbol start
-parted_by symbol address start fs h = by_beginnings symbol address fs ∙ elim (cases_lt symbol start) [
-  | inl over ↦
-      between_by (λ n. n) symbol address start (map begins fs) over h.below (some_is _ start h.first) ∙ sym (lt-ltb _ _ over)
-  | inr not_over ↦
-      none_between (λ n. n) symbol address (map begins fs) (λ q below there. let low = h.closest q below there in omega (arith, low, not_over))
-      ∙ sym (le-ltb _ _ not_over)
+    → any_parts symbol address fs ≡ nat_le symbol start
+parted_by symbol address start fs h = by_beginnings symbol address fs ∙ elim (cases_lt start symbol) [
+  | inl under ↦
+      none_below (λ n. n) (λ n. nat_le symbol n) address (map begins fs)
+      (λ q below there. let low = h.closest q below there in lt-leb _ _ (omega (arith, low, under)))
+      ∙ sym (lt-leb _ _ under)
+  | inr over ↦
+      below_by (λ n. n) (λ n. nat_le symbol n) address start (map begins fs) (le-leb _ _ over) h.below (some_is _ start h.first)
+      ∙ sym (le-leb _ _ over)
 ]
 
 pub parted_none : (symbol address : ℕ) (fs : List Function) → ((q : ℕ) → q ≤ address → first_numbered (λ (n : ℕ). n) q (map begins fs) ≡ None)
     → any_parts symbol address fs ≡ false
 parted_none symbol address fs h =
     by_beginnings symbol address fs
-    ∙ none_between (λ n. n) symbol address (map begins fs)
+    ∙ none_below (λ n. n) (λ n. nat_le symbol n) address (map begins fs)
     (λ q below there. absurd (let k : false ≡ true = subst IsSome (h q below) there in cc))

@@ -69,12 +69,12 @@ impl<'a> FunctionList<'a> {
         self.regions.at_address(address, steps)
     }
 
-    // Tells whether a function begins above a symbol, and not above an address.
+    // Tells whether a function begins neither below a symbol nor above an address.
     pub(crate) fn parts(&self, symbol: u64, address: u64) -> bool
         ensures { result ≡ list_any (parts symbol address) (map function_of self.now) }
     {
         match self.starts.nearest(address) {
-            Some(start) => symbol < *start,
+            Some(start) => symbol <= *start,
             None => false,
         }
     }

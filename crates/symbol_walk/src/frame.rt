@@ -1,5 +1,5 @@
 //! Frames with what is known of their registers.
-ghost use Rattle.std.specs.Prelude.{◌≡◌, IfOk, map};
+ghost use Rattle.std.specs.Prelude.{◌≡◌, IfOk};
 ghost use Rattle.symbol_walk.specs.Unwinder.{first_frame, frame_of, pointer_frame, pointer_value};
 ghost use Rattle.symbol_walk.specs.Unwinder.{unwinder_of};
 

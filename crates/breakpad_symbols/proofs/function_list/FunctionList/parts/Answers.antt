@@ -1,4 +1,4 @@
--- The nearest beginning of a function parts them, if it lies above the symbol.
+-- The nearest beginning of a function parts them, unless it lies below the symbol.
 use Rattle.std.proofs.Common.{sym, subst}
 use Rattle.breakpad_symbols.specs.Numbered.{IsNearestNumber}
 use Rattle.breakpad_symbols.proofs.PublicLemmas.{parted_by, parted_none}
