@@ -10,7 +10,7 @@ use Rattle.std.specs.Str.Lossy.{utf8_lossy}
 use Rattle.minidump.specs.declared.format.MINIDUMP_EXCEPTION.{MINIDUMP_EXCEPTION}
 use Rattle.minidump.specs.declared.system_info.Cpu.{Cpu}
 use Rattle.minidump.specs.declared.system_info.Os.{Os}
-use Rattle.minidump.specs.declared.system_info.Os.TheVariants.{Android, Linux, Windows}
+use Rattle.minidump.specs.declared.system_info.Os.TheVariants.{Android, Linux, MacOs, Windows}
 use Rattle.minidump.specs.declared.system_info.PointerWidth.{PointerWidth}
 use Rattle.minidump.specs.declared.system_info.PointerWidth.TheVariants.{Bits32}
 use Rattle.minidump.specs.Below.System.Cpu.{width_of}
@@ -170,8 +170,15 @@ abbrev pub has_no_fault_address : MINIDUMP_EXCEPTION → Bool
 has_no_fault_address r = r.exception_address == 0
     && (not (is_fault r.exception_code) || r.exception_flags == 0x80)
 
+-- macOS's kernel gives 0 for a general protection of x86, as for an address that isn't canonical: EXC_BAD_ACCESS, 1,
+-- with EXC_I386_GPFLT, 13 (mach/i386/exception.h)
+abbrev pub has_no_protection_address : MINIDUMP_EXCEPTION → Bool
+has_no_protection_address r = r.exception_address == 0
+    && (r.exception_code == 1 && r.exception_flags == 13)
+
 -- the record of an exception on an operating system has no address of a crash
 abbrev pub lacks_address : Os → MINIDUMP_EXCEPTION → Bool
 lacks_address Linux r = has_no_fault_address r
 lacks_address Android r = has_no_fault_address r
+lacks_address MacOs r = has_no_protection_address r
 lacks_address _ r = false

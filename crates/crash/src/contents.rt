@@ -99,13 +99,44 @@ pub(crate) fn read_contents<'a>(alloc: Global, dump: &Minidump<'a>) -> Result<Co
     ensures contents { IfOk result (λ c. contents_of c ≡ contents_in (dump_of dump.now)) }
     ensures memory { IsOkUnless result Error.OutOfMemory }
 {
+    let (system, threads) = crash_streams(alloc, dump)?;
+    let space = space_streams(alloc, dump)?;
+    let (messages, process) = said_streams(alloc, dump)?;
     Ok(Contents {
-        system: system_streams(alloc, dump)?,
-        threads: thread_streams(alloc, dump)?,
-        space: space_streams(alloc, dump)?,
-        messages: message_streams(alloc, dump)?,
-        process: process_streams(alloc, dump)?,
+        system,
+        threads,
+        space,
+        messages,
+        process,
     })
+}
+
+// Reads the streams of the system, and those of the crash and its threads.
+fn crash_streams<'a>(
+    alloc: Global,
+    dump: &Minidump<'a>,
+) -> Result<(SystemStreams<'a>, ThreadStreams<'a>), Error>
+    ensures system { IfOk result (λ s. system_streams_of s.0 ≡ system_streams_in (dump_of dump.now)) }
+    ensures threads { IfOk result (λ s. thread_streams_of s.1 ≡ thread_streams_in (dump_of dump.now)) }
+    ensures memory { IsOkUnless result Error.OutOfMemory }
+{
+    let system = system_streams(alloc, dump)?;
+    Ok((system, thread_streams(alloc, dump)?))
+}
+
+// Reads the streams of what the process itself said, and those of the process.
+fn said_streams<'a>(
+    alloc: Global,
+    dump: &Minidump<'a>,
+) -> Result<(MessageStreams<'a>, ProcessStreams<'a>), Error>
+    ensures messages { IfOk result
+        (λ s. message_streams_of s.0 ≡ message_streams_in (dump_of dump.now)) }
+    ensures process { IfOk result
+        (λ s. process_streams_of s.1 ≡ process_streams_in (dump_of dump.now)) }
+    ensures memory { IsOkUnless result Error.OutOfMemory }
+{
+    let messages = message_streams(alloc, dump)?;
+    Ok((messages, process_streams(alloc, dump)?))
 }
 
 // Reads the streams of the system.

@@ -4,8 +4,8 @@ ghost use Rattle.std.specs.Option.{option_copied, option_map, option_map_or};
 ghost use Rattle.minidump.specs.Promise.{system_info_stream};
 ghost use Rattle.crash.specs.Records.{access_in, access_of_number, access_on, description_in};
 ghost use Rattle.crash.specs.Records.{has_both_ids, is_process, parameter_bytes, text_unless_empty};
-ghost use Rattle.crash.specs.Records.{has_no_fault_address, is_fault, is_low_access, is_sent};
-ghost use Rattle.crash.specs.Records.{is_signal, lacks_address};
+ghost use Rattle.crash.specs.Records.{has_no_fault_address, has_no_protection_address};
+ghost use Rattle.crash.specs.Records.{is_fault, is_low_access, is_sent, is_signal, lacks_address};
 ghost use Rattle.crash.specs.Records.{parameters_in, sender_at, sender_by, sender_if_sent, sender_in};
 ghost use Rattle.crash.specs.Records.{sender_on, sender_with, signal_code, signal_code_name};
 
@@ -44,6 +44,10 @@ const SI_QUEUE: u32 = 0xffff_ffff;
 const SI_TKILL: u32 = 0xffff_fffa;
 
 const SI_KERNEL: u32 = 0x80;
+
+const EXC_BAD_ACCESS: u32 = 1;
+
+const EXC_I386_GPFLT: u32 = 13;
 
 /// How memory was accessed.
 #[derive(Clone, Copy, PartialEq, Eq)]
@@ -182,8 +186,18 @@ pub(crate) fn lacks_address(os: Os, raw: &MINIDUMP_EXCEPTION) -> bool
 {
     match os {
         Os::Linux | Os::Android => has_no_fault_address(raw),
+        Os::MacOs => has_no_protection_address(raw),
         _ => false,
     }
+}
+
+// Tells whether the address of a record of macOS is the 0 of a general protection.
+fn has_no_protection_address(raw: &MINIDUMP_EXCEPTION) -> bool
+    ensures { result ≡ has_no_protection_address raw.now }
+{
+    raw.exception_address == 0
+        && raw.exception_code == EXC_BAD_ACCESS
+        && raw.exception_flags == EXC_I386_GPFLT
 }
 
 // Tells whether the address of a signal's record says nothing.

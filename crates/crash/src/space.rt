@@ -67,12 +67,8 @@ pub(crate) fn space_streams<'a>(
 {
     let (modules, modules_error) = modules_or_none(alloc, dump.try_stream(alloc)?);
     let unloaded = dump.try_stream(alloc)?;
-    let memory64 = dump.try_stream(alloc)?;
-    let (memory, memory_errors) = first_memory(alloc, memory64, dump.try_stream(alloc)?);
-    let infos = dump.try_stream(alloc)?;
-    let maps = dump.try_stream(alloc)?;
-    let map_count = count_of(&maps);
-    let (infos, infos_errors) = first_infos(alloc, infos, maps);
+    let (memory, memory_errors) = memory_streams(alloc, dump)?;
+    let (infos, infos_errors, map_count) = info_streams(alloc, dump)?;
     Ok(SpaceStreams {
         modules,
         modules_error,
@@ -83,6 +79,44 @@ pub(crate) fn space_streams<'a>(
         infos_errors,
         map_count,
     })
+}
+
+// Reads the memory, and returns it with the errors of both lists.
+fn memory_streams<'a>(
+    alloc: Global,
+    dump: &Minidump<'a>,
+) -> Result<(UnifiedMemoryList<'a>, (Option<Error>, Option<Error>)), Error>
+    ensures list { IfOk result (λ s. unified_list s.0 ≡ (space_streams_in (dump_of dump.now)).memory) }
+    ensures errors { IfOk result (λ s. s.1 ≡ (space_streams_in (dump_of dump.now)).memory_errors) }
+    ensures memory { IsOkUnless result Error.OutOfMemory }
+{
+    let memory64 = dump.try_stream(alloc)?;
+    Ok(first_memory(alloc, memory64, dump.try_stream(alloc)?))
+}
+
+// Reads what is known of the regions of memory, and returns it with the errors of both streams and
+// the number of lines of the maps.
+fn info_streams<'a>(
+    alloc: Global,
+    dump: &Minidump<'a>,
+) -> Result<
+    (
+        UnifiedMemoryInfoList<'a>,
+        (Option<Error>, Option<Error>),
+        Option<usize>,
+    ),
+    Error,
+>
+    ensures list { IfOk result (λ s. info_list s.0 ≡ (space_streams_in (dump_of dump.now)).infos) }
+    ensures errors { IfOk result (λ s. s.1 ≡ (space_streams_in (dump_of dump.now)).infos_errors) }
+    ensures count { IfOk result (λ s. s.2 ≡ (space_streams_in (dump_of dump.now)).map_count) }
+    ensures memory { IsOkUnless result Error.OutOfMemory }
+{
+    let infos = dump.try_stream(alloc)?;
+    let maps = dump.try_stream(alloc)?;
+    let map_count = count_of(&maps);
+    let (infos, errors) = first_infos(alloc, infos, maps);
+    Ok((infos, errors, map_count))
 }
 
 // Returns the modules, or none and the error.

@@ -97,10 +97,16 @@ last_numbered f xs i now past whole =
     sym (append-nil now) ∙ ap (λ ys. now ++ item_tokens (λ p. f p.0 p.1) (enumerate_from i ys)) (sym (drop_all i xs past)) ∙ whole
 
 -- a text whose tokens are those of a value is that value
-pub document_of_tokens : (text : List ℕ) (j : Json) → tokens text ≡ json_tokens j → depth j ≤ max_depth → document text ≡ Some j
+document_of_tokens : (text : List ℕ) (j : Json) → tokens text ≡ json_tokens j → depth j ≤ max_depth → document text ≡ Some j
 document_of_tokens text j is shallow =
     ap (option_and_then (λ p. if_last p.0 p.1))
     (ap (value max_depth) (is ∙ sym (append-nil (json_tokens j))) ∙ value-json_tokens j max_depth [] shallow)
+
+-- a text that was printed from the tokens of a value, put after none, is that value
+pub document_of_put : (text printed : List ℕ) (before after : List Token) (j : Json) → text ≡ printed → tokens printed ≡ after
+    → after ≡ before ++ json_tokens j → before ≡ [] → depth j ≤ max_depth → document text ≡ Some j
+document_of_put text printed before after j is read put begin shallow =
+    document_of_tokens text j (ap tokens is ∙ read ∙ put ∙ ap (λ ts. ts ++ json_tokens j) begin) shallow
 
 -- a value that an item stands for, and that of a stream, each of which may be absent
 pub or_null_of_views : {X Y : Type 0} (json : Y → Json) (view : X → Y) (o : Option X) → or_null json (option_map view o) ≡ or_null (λ x. json (view x)) o

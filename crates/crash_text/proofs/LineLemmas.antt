@@ -1,4 +1,4 @@
--- Lines have no control characters but their ends, and one more line of a list that is gone through.
+-- Lines have no control characters but their ends, one more line of a list that is gone through, and the values of lines.
 use Rattle.std.proofs.Common.{◌≡◌, ◌∙◌, ℕ, true, List, [], ◌∷◌, ◌++◌, ap, append-nil, append_assoc, refl, sym}
 use Rattle.std.proofs.lemmas.List.{length-map, map-id}
 use Rattle.std.proofs.lemmas.List.Concat.{flat_map-cons}
