@@ -107,7 +107,7 @@ fn separator_of(list: &[u8]) -> u8
     if list.contains(&0) { 0 } else { b'\n' }
 }
 
-/// Reads dumps, or returns `None` if one has more bytes than are read.
+/// Reads dumps and the list of paths, or returns `None` if one has more bytes than are read.
 pub(crate) trait ReadDumps {
     ghost use Rattle.std.specs.Global.{Vec};
     ghost use Rattle.std.specs.Prelude.{ℕ, Option, Result};
@@ -121,7 +121,7 @@ pub(crate) trait ReadDumps {
     fn read_file(&self, path: &str) -> io::Result<Option<Vec<u8>>>
         ensures { reads self.now (in_file path.now) result };
 
-    /// Reads the dump on standard input.
+    /// Reads the dump or the list on standard input.
     fn read_input(&self) -> io::Result<Option<Vec<u8>>>
         ensures { reads self.now on_input result };
 }
@@ -130,7 +130,7 @@ pub(crate) trait ReadDumps {
 #[derive(Clone, Copy)]
 pub(crate) struct Files<'l> {
     pub(crate) rt: &'l HostRuntime,
-    // the most bytes of a dump
+    // the most bytes of a dump, and of the list of paths
     pub(crate) limit: usize,
 }
 
@@ -154,8 +154,8 @@ pub(crate) fn read_file(rt: &HostRuntime, path: &str, limit: usize) -> io::Resul
     read_to_limit(rt.alloc(), File::open(rt, path)?, limit)
 }
 
-/// Reads standard input, or returns `None` if it has more bytes than the limit.
-pub(crate) fn read_input(rt: &HostRuntime, limit: usize) -> io::Result<Option<Vec<u8>>> {
+// Reads standard input, or returns `None` if it has more bytes than the limit.
+fn read_input(rt: &HostRuntime, limit: usize) -> io::Result<Option<Vec<u8>>> {
     read_to_limit(rt.alloc(), rt.stdin(), limit)
 }
 

@@ -1,12 +1,14 @@
-ghost use Rattle.std.specs.Prelude.{◌≡◌, ◌<◌, ◌≤◌, ◌==◌, ◌&&◌, ◌++◌, ◌⊎◌, ℕ, List, IfOk, OnErr, OnOk};
-ghost use Rattle.std.specs.Prelude.{length, map, not, take};
+ghost use Rattle.std.specs.Prelude.{◌≡◌, ◌<◌, ◌≤◌, ◌==◌, ◌&&◌, ◌++◌, ℕ, List, [], Option, IfOk, OnErr};
+ghost use Rattle.std.specs.Prelude.{OnOk, length, map, not, take, true, unwrap_or};
 ghost use Rattle.std.specs.IoError.{error_kind};
+ghost use Rattle.std.specs.Option.{option_map};
 ghost use Rattle.clap.specs.Words.{kind_of};
 ghost use Rattle.whocrashed.specs.Input.{asked_in, asked_of, by_argument};
-ghost use Rattle.whocrashed.specs.Status.{IsGreatest, MayHave, status_of_kind, status_without};
+ghost use Rattle.whocrashed.specs.Status.{IsGreatest, IsListOf, MayHave, status_before};
+ghost use Rattle.whocrashed.specs.Status.{status_of_kind, status_without};
 
 use crate::complain::{complain, complain_at_end, complain_of, say};
-use crate::input::{Dump, Files, ReadDumps, dumps_in, read_input};
+use crate::input::{Dump, Files, ReadDumps, dumps_in};
 use crate::names::names_text;
 use crate::options::Options;
 use crate::report::Reporter;
@@ -161,25 +163,48 @@ fn report_dumps<S: ReadDumps>(
 ) -> io::Result<()>
     requires { worst.old < 2 }
     ensures bound { worst.new < 2 }
-    ensures all { OnOk result ((list : List ℕ) × (first : ℕ) × ((first ≡ worst.old) ⊎ (first ≡ 1))
-        × IsGreatest (MayHave (S.reads source.now) reporter.now.names.now reporter.now.scan) first
-        (map (λ a. by_argument a.now) options.now.dumps.items ++ asked_in list) worst.new) }
+    ensures all { OnOk result ((list : Option (List ℕ)) × IsListOf (S.reads source.now) options.now.are_listed list
+        × IsGreatest (MayHave (S.reads source.now) reporter.now.names.now reporter.now.scan)
+        (status_before list worst.old) (map (λ a. by_argument a.now) options.now.dumps.items
+        ++ asked_in (unwrap_or list [])) worst.new) }
 {
-    let alloc = reporter.rt.alloc();
-    let list = if options.are_listed {
-        read_list(reporter)?
-    } else {
-        Some(Vec::new(alloc))
-    };
-    if list.is_none() {
-        *worst = 1;
-    }
+    let list = list_of(reporter, source, options)?;
+    *worst = status_before(list.as_deref(), *worst);
     let dumps = dumps_in(
-        alloc,
+        reporter.rt.alloc(),
         options.dumps.as_slice(),
         list.as_deref().unwrap_or(&[]),
     )?;
     report_each(reporter, source, dumps.as_slice(), options, worst)
+}
+
+// Reads the list of paths, an empty one if the options ask for none. Returns `None` if it can't be
+// read.
+fn list_of<S: ReadDumps>(
+    reporter: &Reporter<'_, '_>,
+    source: &S,
+    options: &Options<'_>,
+) -> io::Result<Option<Vec<u8>>>
+    ensures { IfOk result (λ list. IsListOf (S.reads source.now) options.now.are_listed
+        (option_map (λ v. v.items) list)) }
+{
+    if options.are_listed {
+        read_list(reporter, source)
+    } else {
+        Ok(Some(Vec::new(reporter.rt.alloc())))
+    }
+}
+
+// Returns the status before the dumps, by the list of paths that was read.
+fn status_before(list: Option<&[u8]>, worst: u8) -> u8
+    requires { worst < 2 }
+    ensures status { result ≡ status_before (option_map (λ l. l.now) list.entry) worst }
+    ensures bound { result < 2 }
+{
+    match list {
+        Some(_) => worst,
+        None => 1,
+    }
 }
 
 // Reports on each of dumps, which `source` reads. Running out of memory for one is a line, and its
@@ -224,9 +249,12 @@ fn report_each<S: ReadDumps>(
 }
 
 // Reads the list of paths on standard input. Returns `None` if it can't be read, which it says.
-fn read_list(reporter: &Reporter<'_, '_>) -> io::Result<Option<Vec<u8>>> {
+fn read_list<S: ReadDumps>(reporter: &Reporter<'_, '_>, source: &S) -> io::Result<Option<Vec<u8>>>
+    ensures { IfOk result
+        (λ list. IsListOf (S.reads source.now) true (option_map (λ v. v.items) list)) }
+{
     let name = "standard input";
-    match read_input(reporter.rt, reporter.limit) {
+    match source.read_input() {
         Ok(Some(list)) => return Ok(Some(list)),
         Ok(None) => complain(reporter.rt, name, "the list of paths is too large")?,
         Err(error) => complain_of(reporter.rt, name, &error)?,

@@ -26,7 +26,7 @@ pub(crate) struct Reporter<'l, 'n> {
     pub(crate) limits: TextLimits,
     pub(crate) scan: usize,
     pub(crate) form: Form,
-    // the most bytes of a dump, and of the list of paths
+    // the most bytes of a dump
     pub(crate) limit: usize,
     // whether it is the only argument, and no list of paths is read
     pub(crate) is_one: bool,

@@ -1,14 +1,16 @@
 -- One status more, and those before a failure.
-use Rattle.std.proofs.Common.{arith, inl, inr, refl}
+use Rattle.std.proofs.Common.{arith, inl, inr}
 use Rattle.whocrashed.specs.Input.{asked_of}
-use Rattle.whocrashed.specs.Status.{HasStatus, IsGreatest, MayHave}
-use Rattle.whocrashed.proofs.GreatestLemmas.{below, moved, of_failed, so_far, with_next}
+use Rattle.whocrashed.specs.Status.{HasStatus, MayHave}
+use Rattle.whocrashed.proofs.GreatestLemmas.{begun, below, moved, of_failed, so_far, with_next}
 use Rattle.whocrashed.proofs.program.report_each.Goals as goal
 use Rattle.whocrashed.proofs.program.report_each.Goals.{in-Ok, in-Err+in_ok-complain_of_memory-in-Err}
 
 pub loop-i-init : goal.loop-i-init
-unfolding IsGreatest
-loop-i-init g c = record { bound = c.requires; greatest = refl }
+loop-i-init g c = record {
+  bound = c.requires;
+  greatest = begun (MayHave (g.S.ReadDumps.reads c.args.source.now) c.args.reporter.now.names.now c.args.reporter.now.scan) c.args.worst.now;
+}
 
 pub loop-i-preserved : goal.loop-i-preserved
 loop-i-preserved g c = record {
