@@ -79,8 +79,8 @@ pub struct CrashException {
     /// the record, in as many bits as a pointer has. `None` without system information, for a signal
     /// that a process sent, and on Linux and Android if it is 0, but for SIGILL, SIGTRAP, SIGBUS,
     /// SIGFPE and SIGSEGV, which have an address unless the kernel sent them without one, by
-    /// SI_KERNEL, as for an access to an address that isn't canonical. That is an EXC_BAD_ACCESS
-    /// with EXC_I386_GPFLT on macOS, which has none either if it is 0.
+    /// SI_KERNEL, as for an access to an address that isn't canonical. On macOS such an access is an
+    /// EXC_BAD_ACCESS with EXC_I386_GPFLT, which has no address either if it is 0.
     pub address: Option<u64>,
     /// The reason of the crash in words, or `None` without system information.
     pub reason: Option<String>,

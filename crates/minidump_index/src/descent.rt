@@ -2,9 +2,9 @@
 //! regions on:
 //!
 //! - The search goes down a complete tree in level order, so that the upper levels share cache
-//!   lines. It makes one comparison a level and no branch on its result, so it takes the same steps
-//!   whatever the address, but for the last level, where the tree may lack the slot that the search
-//!   comes to. That pays at every size.
+//!   lines. It makes one comparison a level, and branches on nothing but whether the tree goes on,
+//!   so it takes the same steps whatever the address, but for the last level, where the tree may
+//!   lack the slot that the search comes to. That pays at every size.
 //! - Entries have 16 bytes where all ranges of the list fit ([`Small`](crate::stored::Small)), so
 //!   four stand in a cache line. Entries of 24 bytes ([`Wide`](crate::stored::Wide)) take a tenth
 //!   longer at 1,000 regions, and a third longer from 100,000 on.

@@ -1,15 +1,13 @@
 -- The states of modules, with one more that was looked for.
-use Rattle.std.proofs.Common.{◌≡◌, ◌≢◌, ◌∙◌, ◌∷◌, ◌<◌, ap, inl, inr, ℕ, zero, suc, List, length, map, refl, replicate, sym, subst, Option, None}
+use Rattle.std.proofs.Common.{◌≡◌, ◌≢◌, ◌∙◌, ◌∷◌, ◌<◌, ap, inl, inr, ℕ, zero, suc, length, map, refl, replicate, sym, subst, None}
 use Rattle.std.specs.Borrow.{Bor}
 use Rattle.std.specs.Prelude.{is_some, slice_index_or, Result, Ok, Err}
 use Rattle.std.specs.List.{slice_set}
 use Rattle.std.proofs.lemmas.Bool.Decides.{eqb_tells}
 use Rattle.std.proofs.lemmas.Grind.{get_or-set_at}
 use Rattle.std.proofs.lemmas.List.{get_or-set_other, length-set, map-set}
-use Rattle.breakpad_symbols.specs.SymbolFile.{SymbolsValue}
 use Rattle.breakpad_symbols.specs.declared.symbol_file.SymbolFile.{SymbolFile}
 use Rattle.crash_symbols.specs.Symbols.{KnownSymbols, are_loaded}
-use Rattle.crash_symbols.specs.declared.symbols.SymbolState.{SymbolState}
 use Rattle.crash_symbols.specs.declared.symbols.SymbolState.TheVariants.{Unwanted}
 use Rattle.whocrashed.specs.declared.symbols.NoSymbols.{NoSymbols}
 use Rattle.whocrashed.specs.declared.symbols.NoSymbols.TheVariants as reason

@@ -1,5 +1,5 @@
 -- What is read of files and of standard input, and which dumps are read.
-use Rattle.std.specs.Prelude.{ℕ, ◌==◌, Bool, false, true, List, bytes_eq, codes, filter, length, map, nat_lt}
+use Rattle.std.specs.Prelude.{ℕ, ◌==◌, Bool, List, bytes_eq, codes, filter, length, map, nat_lt}
 use Rattle.std.specs.Prelude.{if◌then◌else◌, Option, Some, None}
 use Rattle.std.specs.List.{list_any, slice_split}
 use Rattle.std.specs.Str.{is_utf8}
