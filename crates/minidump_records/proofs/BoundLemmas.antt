@@ -85,7 +85,7 @@ whole order file offset i h = by_zero (offset == 0) h
     by_room true e k = grind (arith, nat_tests, e)
     by_room false e k = (let j = rw e at k in cc)
 
-    by_zero : (b : Bool) → (if b then None else option_and_then with_type (record_at object_information order offset file)) ≡ Some i → offset + 12 ≤ length file
+    by_zero : (b : Bool) → option_and_then with_type (if b then None else record_at object_information order offset file) ≡ Some i → offset + 12 ≤ length file
     by_zero true k = cc
     by_zero false k = by_room (nat_le (offset + 12) (length file)) refl k
 

@@ -13,7 +13,7 @@ use Rattle.minidump_format.specs.declared.format.handle.MINIDUMP_HANDLE_DESCRIPT
 use Rattle.minidump_format.specs.declared.format.stream_type.MINIDUMP_STREAM_TYPE.TheVariants.{HandleDataStream}
 use Rattle.minidump_format.specs.declared.error.Error.{Error}
 use Rattle.minidump_format.specs.StreamType.{number_of}
-use Rattle.minidump_system.specs.Chain.{chain_within}
+use Rattle.minidump_system.specs.Chain.{chain_within, reads_at}
 use Rattle.minidump_system.specs.StreamSpec.{StreamSpec}
 use Rattle.minidump_system.specs.declared.framing.HandleEntries.{HandleEntries}
 use Rattle.minidump_system.specs.declared.framing.HandleEntries.TheVariants.{Short, Long}
@@ -28,7 +28,7 @@ use Rattle.minidump_records.specs.declared.handles.raw.RawHandleDescriptor.{RawH
 use Rattle.minidump_records.specs.declared.handles.raw.RawHandleDescriptor.TheVariants.{HandleDescriptor}
 use Rattle.minidump_records.specs.declared.handles.raw.RawHandleDescriptor.TheVariants.{HandleDescriptor2}
 use Rattle.minidump_records.specs.Handles.Descriptor.{object_info_rva, object_name_rva, type_name_rva}
-use Rattle.minidump_records.specs.Handles.ObjectChain.{chain_reads, information_at, information_text, next_of, reads_at}
+use Rattle.minidump_records.specs.Handles.ObjectChain.{chain_reads, information_at, information_text, next_of}
 use Rattle.minidump_format.specs.Numbered.{numbered_list}
 
 -- ---- a handle

@@ -33,7 +33,7 @@ pub nonzero : (order : Endian) (file : List ℕ) (offset : ℕ) (i : MinidumpHan
 unfolding information_at
 nonzero order file offset i h = by_zero (offset == 0) refl h
   where
-    by_zero : (b : Bool) → (offset == 0) ≡ b → (if b then None else option_and_then with_type (record_at object_information order offset file)) ≡ Some i → 0 < offset
+    by_zero : (b : Bool) → (offset == 0) ≡ b → option_and_then with_type (if b then None else record_at object_information order offset file) ≡ Some i → 0 < offset
     by_zero true e k = cc
     by_zero false e k = grind (arith, nat_tests, e)
 

@@ -1,14 +1,14 @@
 -- The pieces of information on the object of a handle, each of which names the next: Microsoft's
 -- MINIDUMP_HANDLE_OBJECT_INFORMATION.
-use Rattle.std.specs.Prelude.{ℕ, ◌+◌, ◌==◌, List, [], ◌∷◌, ◌++◌, codes, length, false, Option, None, if◌then◌else◌}
+use Rattle.std.specs.Prelude.{ℕ, ◌+◌, List, [], ◌∷◌, ◌++◌, codes, length, false, Option}
 use Rattle.std.specs.Fmt.{digits}
 use Rattle.std.specs.Option.{option_and_then, option_map}
 use Rattle.minidump_bytes.specs.declared.endian.Endian.{Endian}
-use Rattle.minidump_bytes.specs.Span.{record_at}
 use Rattle.minidump_format.specs.declared.format.handle.MINIDUMP_HANDLE_OBJECT_INFORMATION.{}
 use Rattle.minidump_format.specs.declared.format.handle.MINIDUMP_HANDLE_OBJECT_INFORMATION.{}
 use Rattle.minidump_format.specs.declared.format.handle.MINIDUMP_HANDLE_OBJECT_INFORMATION.{MINIDUMP_HANDLE_OBJECT_INFORMATION}
 use Rattle.minidump_format.specs.Handle.{information_type_of, object_information}
+use Rattle.minidump_system.specs.Chain.{linked, reads_at}
 use Rattle.minidump_records.specs.declared.handles.information.MinidumpHandleObjectInformation.{}
 use Rattle.minidump_records.specs.declared.handles.information.MinidumpHandleObjectInformation.{}
 use Rattle.minidump_records.specs.declared.handles.information.MinidumpHandleObjectInformation.{MinidumpHandleObjectInformation}
@@ -21,17 +21,11 @@ with_type raw =
 -- the piece of information at an offset of the file; there is none at 0
 unfoldable pub information_at : Endian → List ℕ → ℕ → Option MinidumpHandleObjectInformation
 information_at order file offset =
-    if offset == 0
-    then None
-    else option_and_then with_type (record_at object_information order offset file)
+    option_and_then with_type (linked object_information order offset file)
 
 -- the offset of the next piece, or 0
 abbrev pub next_of : MinidumpHandleObjectInformation → ℕ
 next_of i = i.raw.next_info_rva
-
--- the reads at an RVA: none at 0
-abbrev pub reads_at : ℕ → ℕ
-reads_at rva = if rva == 0 then 0 else 1
 
 -- the link at which a chain ends: that of its last piece
 abbrev pub last_link : ℕ → List MinidumpHandleObjectInformation → ℕ

@@ -1,7 +1,4 @@
-ghost use Rattle.std.specs.Prelude.{◌≡◌, ◌+◌, ◌<◌, ◌≤◌, ◌++◌, ◌∷◌, [], ℕ, true, not, cond, length, IfOk, OnOk};
-ghost use Rattle.std.specs.BTreeMap.{is_at};
-ghost use Rattle.std.specs.BTreeSet.{contains};
-ghost use Rattle.std.specs.Ordering.{nat_cmp};
+ghost use Rattle.std.specs.Prelude.{◌≡◌, ◌+◌, ◌≤◌, ◌++◌, ◌∷◌, [], length, IfOk, OnOk};
 ghost use Rattle.minidump_bytes.specs.Source.{bytes_of};
 ghost use Rattle.minidump_bytes.specs.Steps.{after};
 ghost use Rattle.minidump_records.specs.Handles.{object_chain};
@@ -9,6 +6,7 @@ ghost use Rattle.minidump_records.specs.Handles.ObjectChain.{chain_reads};
 
 use super::information::{MinidumpHandleObjectInformation, information_at};
 use minidump_bytes::{Endian, Source, Steps};
+use minidump_system::chain::is_new;
 use std::alloc::{AllocError, Global};
 use std::collections::BTreeSet;
 
@@ -53,19 +51,4 @@ fn push_piece(
         infos.reserve_exact(1)?;
     }
     Ok(infos.push(info)?)
-}
-
-// Inserts the offset of a piece into the offsets of the pieces before it. Returns `true` if it was
-// not among them. The offset of a last piece, whose `next` is 0, is only looked up: so a chain of
-// one piece takes no memory for the set.
-fn is_new(offsets: &mut BTreeSet<u32>, offset: u32, next: u32) -> Result<bool, AllocError>
-    ensures new { IfOk result (λ new. new ≡ not (contains nat_cmp offsets.old offset)) }
-    ensures keeps { IfOk result (λ new. 0 < next → (q : ℕ)
-        → contains nat_cmp offsets.new q
-        ≡ cond (is_at (nat_cmp offset) q) true (contains nat_cmp offsets.old q)) }
-{
-    if next == 0 {
-        return Ok(!offsets.contains(&offset));
-    }
-    Ok(offsets.insert(offset)?)
 }

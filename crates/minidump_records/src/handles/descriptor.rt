@@ -3,7 +3,7 @@ ghost use Rattle.std.specs.Option.{option_copied, option_map};
 ghost use Rattle.minidump_bytes.specs.Source.{bytes_of};
 ghost use Rattle.minidump_bytes.specs.Steps.{after};
 ghost use Rattle.minidump_records.specs.Handles.{handle_in, handle_of, handle_reads, name_at_rva, or_zero};
-ghost use Rattle.minidump_records.specs.Handles.ObjectChain.{reads_at};
+ghost use Rattle.minidump_system.specs.Chain.{reads_at};
 
 use super::chain::read_chain;
 use super::{MinidumpHandleObjectInformation, RawHandleDescriptor};

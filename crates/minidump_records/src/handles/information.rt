@@ -1,12 +1,14 @@
 ghost use Rattle.std.specs.Prelude.{◌≡◌, ◌+◌, ◌≤◌, IfSome};
 ghost use Rattle.minidump_bytes.specs.Source.{bytes_of};
 ghost use Rattle.minidump_bytes.specs.Steps.{after};
-ghost use Rattle.minidump_records.specs.Handles.ObjectChain.{information_at, reads_at};
+ghost use Rattle.minidump_system.specs.Chain.{reads_at};
+ghost use Rattle.minidump_records.specs.Handles.ObjectChain.{information_at};
 
 use minidump_bytes::{Endian, Source, Steps};
 use minidump_format::format::{
     MINIDUMP_HANDLE_OBJECT_INFORMATION, MINIDUMP_HANDLE_OBJECT_INFORMATION_TYPE,
 };
+use minidump_system::chain::linked_record;
 use std::fmt;
 
 /// The head of a piece of information on the object of a handle.
@@ -52,10 +54,7 @@ pub(super) fn information_at(
     ensures at_least { IfSome result (λ _. after steps.old 1 ≤ steps.new) }
     ensures step { steps.new ≡ after steps.old (reads_at offset) }
 {
-    if offset == 0 {
-        return None;
-    }
-    let raw: MINIDUMP_HANDLE_OBJECT_INFORMATION = all.record(offset as u64, endian, steps)?;
+    let raw: MINIDUMP_HANDLE_OBJECT_INFORMATION = linked_record(offset, all, endian, steps)?;
     let info_type = MINIDUMP_HANDLE_OBJECT_INFORMATION_TYPE::from_u32(raw.info_type)?;
     Some(MinidumpHandleObjectInformation { raw, info_type })
 }
