@@ -1,13 +1,17 @@
 -- FILE, INLINE_ORIGIN, INLINE and STACK CFI lines mean what their grammar says.
-use Rattle.std.proofs.Common.{◌≡◌, ◌≢◌, ◌↔◌, ℕ, List, [], ◌∷◌, Option, Some, None, refl, ap}
-use Rattle.std.specs.Prelude.{codes}
+use Rattle.std.proofs.Common.{◌≡◌, ◌≢◌, ◌↔◌, ◌∙◌, ℕ, Bool, true, false, List, [], ◌∷◌, Option, Some, None, refl, ap, sym}
+use Rattle.std.specs.Prelude.{codes, if◌then◌else◌}
+use Rattle.std.specs.Option.{option_map}
+use Rattle.std.specs.Str.{bytes_eq}
+use Rattle.std.proofs.lemmas.Bool.{false_from_ne_true}
+use Rattle.std.proofs.lemmas.Slice.Eq.{bytes_eq-Decides}
 use Rattle.minidump_bytes.proofs.DigitLemmas.{number_spells, spelled_number}
 use Rattle.minidump_bytes.specs.Digits.{number_of_digits}
 use Rattle.minidump_bytes.specs.LinuxOsStr.{after_prefix, cut_first, words_of}
 use Rattle.breakpad_symbols.specs.declared.inline.InlineCall.{InlineCall}
 use Rattle.breakpad_symbols.specs.Cfi.{ChangeValue, change_line}
-use Rattle.breakpad_symbols.specs.Grammar.{AreRanges, IsChangeLine, IsInlineLine, IsNumberedName}
-use Rattle.breakpad_symbols.specs.Inline.{InlineValue, inline_head, inline_line, ranges_in, some_ranges, with_range}
+use Rattle.breakpad_symbols.specs.Grammar.{AreRanges, IsChangeLine, IsFileNumber, IsInlineLine, IsNumberedName}
+use Rattle.breakpad_symbols.specs.Inline.{InlineValue, file_number, inline_head, inline_line, ranges_in, some_ranges, with_range}
 use Rattle.breakpad_symbols.specs.NumberedName.{NameValue, numbered_name}
 use Rattle.breakpad_symbols.proofs.FieldLemmas.{after_prefix_is, after_prefix_some, field_is, given, is_field, some_same}
 
@@ -107,18 +111,45 @@ spelled_ranges (first ∷ size ∷ words) [] h = absurd h
 spelled_ranges (first ∷ size ∷ words) (r ∷ rs) h =
     rw (spelled_number 16 64 first r.0 h.0, spelled_number 16 64 size r.1 h.1, spelled_ranges words rs h.2) refl
 
+-- ---- the file of a call
+known_file : (o : Option ℕ) (file : Option ℕ) → option_map (λ number. Some number) o ≡ Some file → (n : ℕ) × (o ≡ Some n) × (Some n ≡ file)
+known_file None file h = absurd (let k : None ≡ Some file = h in cc)
+known_file (Some n) file h = (n, refl, some_same {A = Option ℕ} (Some n) file h)
+
+file_spells : (word : List ℕ) (file : Option ℕ) → file_number word ≡ Some file → IsFileNumber word file
+file_spells word file h = by (bytes_eq word (codes "-1")) refl h
+  where
+    by : (t : Bool) → bytes_eq word (codes "-1") ≡ t
+        → (if t then Some None else option_map (λ number. Some number) (number_of_digits 10 32 word)) ≡ Some file → IsFileNumber word file
+    by true is k = rw (← some_same {A = Option ℕ} None file k) ((bytes_eq-Decides word (codes "-1")).0 is)
+    by false is k = let n = known_file (number_of_digits 10 32 word) file k in rw (← n.2) (number_spells 10 32 word n.0 n.1)
+
+no_digits : number_of_digits 10 32 (codes "-1") ≡ None
+unfolding number_of_digits
+no_digits = refl
+
+spelled_file : (word : List ℕ) (file : Option ℕ) → IsFileNumber word file → file_number word ≡ Some file
+spelled_file word None h = rw ((bytes_eq-Decides word (codes "-1")).1 h) refl
+spelled_file word (Some n) h =
+    let number = spelled_number 10 32 word n h in
+    rw (
+      false_from_ne_true (bytes_eq word (codes "-1")) (λ t.
+          let clash : None ≡ Some n = sym no_digits ∙ sym (ap (number_of_digits 10 32) ((bytes_eq-Decides word (codes "-1")).0 t)) ∙ number in cc),
+      number,
+    ) refl
+
 -- ---- INLINE lines
-abbrev call_of : ℕ → ℕ → ℕ → ℕ → InlineCall
+abbrev call_of : ℕ → ℕ → Option ℕ → ℕ → InlineCall
 call_of depth line file origin = record { depth = depth; line = line; file = file; origin = origin }
 
 abbrev inline_of : InlineCall → List (ℕ × ℕ) → InlineValue
 inline_of call ranges = record { call = call; ranges = ranges }
 
-inline_by : (text fields : List ℕ) (depth line file origin : List ℕ × List ℕ) (d l f o : ℕ) (call : InlineCall) (rest : List ℕ) (rs : List (ℕ × ℕ))
+inline_by : (text fields : List ℕ) (depth line file origin : List ℕ × List ℕ) (d l : ℕ) (f : Option ℕ) (o : ℕ) (call : InlineCall) (rest : List ℕ) (rs : List (ℕ × ℕ))
     → after_prefix (codes "INLINE ") text ≡ Some fields
     → cut_first 32 fields ≡ Some depth → cut_first 32 depth.1 ≡ Some line → cut_first 32 line.1 ≡ Some file → cut_first 32 file.1 ≡ Some origin
     → number_of_digits 10 32 depth.0 ≡ Some d → number_of_digits 10 32 line.0 ≡ Some l
-    → number_of_digits 10 32 file.0 ≡ Some f → number_of_digits 10 32 origin.0 ≡ Some o
+    → file_number file.0 ≡ Some f → number_of_digits 10 32 origin.0 ≡ Some o
     → (let x : InlineCall × List ℕ = (call_of d l f o, origin.1) in let y : InlineCall × List ℕ = (call, rest) in Some x ≡ Some y)
     → AreRanges (words_of rest) rs → rs ≢ [] → IsInlineLine text (inline_of call rs)
 inline_by text fields depth line file origin d l f o call rest rs k a b c e n m p q h ranges some =
@@ -142,7 +173,7 @@ inline_by text fields depth line file origin d l f o call rest rs k a b c e n m 
       origin_field = field_is file.1 origin.0 origin.1 e;
       depth_is = number_spells 10 32 depth.0 d n;
       line_is = number_spells 10 32 line.0 l m;
-      file_is = number_spells 10 32 file.0 f p;
+      file_is = file_spells file.0 f p;
       origin_is = number_spells 10 32 origin.0 o q;
       ranges_are = rw rest_is ranges;
       some_range = some;
@@ -160,7 +191,7 @@ head_spells text call rest rs h ranges some =
     let origin = given (cut_first 32 file.0.1) _ y file.2 in
     let d = given (number_of_digits 10 32 depth.0.0) _ y origin.2 in
     let l = given (number_of_digits 10 32 line.0.0) _ y d.2 in
-    let f = given (number_of_digits 10 32 file.0.0) _ y l.2 in
+    let f = given (file_number file.0.0) _ y l.2 in
     let o = given (number_of_digits 10 32 origin.0.0) _ y f.2 in
     inline_by text fields.0 depth.0 line.0 file.0 origin.0 d.0 l.0 f.0 o.0 call rest rs
     fields.1 depth.1 line.1 file.1 origin.1 d.1 l.1 f.1 o.1 o.2 ranges some
@@ -199,7 +230,7 @@ spelled_inline text i h =
       is_field h.after_file h.origin h.ranges h.origin_field,
       spelled_number 10 32 h.depth i.call.depth h.depth_is,
       spelled_number 10 32 h.line i.call.line h.line_is,
-      spelled_number 10 32 h.file i.call.file h.file_is,
+      spelled_file h.file i.call.file h.file_is,
       spelled_number 10 32 h.origin i.call.origin h.origin_is,
       spelled_some (words_of h.ranges) i.ranges h.ranges_are h.some_range,
     ) refl

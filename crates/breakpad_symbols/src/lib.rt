@@ -33,8 +33,9 @@
 //! A line ends at a line feed, before which a carriage return may stand. Fields are separated by
 //! one space, and the last one is the rest of the line; the words of ranges and rules are separated
 //! by white space. Addresses and sizes are hexadecimal numbers of 64 bits, other fields that are
-//! numbers decimal ones of 32 bits. An INLINE line has at least one range. The next FUNC, PUBLIC or
-//! STACK line ends the records of a function, the next STACK CFI INIT line the changes of rules.
+//! numbers decimal ones of 32 bits. The file of an INLINE line may be -1, for one that isn't known,
+//! and the line has at least one range. The next FUNC, PUBLIC or STACK line ends the records of a
+//! function, the next STACK CFI INIT line the changes of rules.
 //!
 //! Rules are words: a register and a colon, and then its expression in postfix form, of decimal
 //! numbers as wide as an address, also negative ones, registers, `.cfa`, the operators

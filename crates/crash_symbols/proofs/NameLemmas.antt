@@ -7,7 +7,7 @@ use Rattle.std.specs.Option.{option_copied, option_map}
 use Rattle.std.proofs.lemmas.List.{reverse-append}
 use Rattle.breakpad_symbols.specs.declared.inline.InlineCall.{InlineCall}
 use Rattle.breakpad_symbols.specs.SymbolFile.{SymbolsValue, origin_name}
-use Rattle.crash_symbols.specs.Names.{CallValue, SourceValue, inlines_by, line_around, source_in, values_by}
+use Rattle.crash_symbols.specs.Names.{CallValue, SourceValue, inlines_by, line_around, source_of_call, values_by}
 
 module _ {A : Type 0} (value : ℕ → Option A) where
   -- the values from a number on, below an end
@@ -49,7 +49,7 @@ last_first before after x is = ap reverse is ∙ reverse-append after (x ∷ [])
 module _ (s : SymbolsValue) where
   -- the line around a call, and around those it is in
   pub line_more : (line : Option SourceValue) (call : InlineCall) (outer rest : List InlineCall) (next : SourceValue) (all : Option SourceValue)
-      → rest ≡ call ∷ outer → next ≡ source_in s call.file call.line → line_around s line rest ≡ all → line_around s (Some next) outer ≡ all
+      → rest ≡ call ∷ outer → next ≡ source_of_call s call → line_around s line rest ≡ all → line_around s (Some next) outer ≡ all
   unfolding line_around
   line_more line call outer rest next all first is so = ap (λ x. line_around s (Some x) outer) is ∙ sym (ap (line_around s line) first) ∙ so
 
@@ -59,14 +59,14 @@ module _ (s : SymbolsValue) where
 
   -- the calls so far and those that are left, with one more
   pub inlines_more : (line : Option SourceValue) (call : InlineCall) (outer rest : List InlineCall) (next : SourceValue) (x : CallValue) (before after all : List CallValue)
-      → rest ≡ call ∷ outer → next ≡ source_in s call.file call.line → x ≡ record { function = origin_name s.origins call.origin; source = line }
+      → rest ≡ call ∷ outer → next ≡ source_of_call s call → x ≡ record { function = origin_name s.origins call.origin; source = line }
       → after ≡ before ++ (x ∷ []) → before ++ inlines_by s line rest ≡ all → after ++ inlines_by s (Some next) outer ≡ all
   unfolding inlines_by
   inlines_more line call outer rest next x before after all first is named more so =
       ap (λ n. after ++ inlines_by s (Some n) outer) is
-      ∙ ap (λ l. l ++ inlines_by s (Some (source_in s call.file call.line)) outer) more
-      ∙ append_assoc before (x ∷ []) (inlines_by s (Some (source_in s call.file call.line)) outer)
-      ∙ ap (λ y. before ++ (y ∷ inlines_by s (Some (source_in s call.file call.line)) outer)) named
+      ∙ ap (λ l. l ++ inlines_by s (Some (source_of_call s call)) outer) more
+      ∙ append_assoc before (x ∷ []) (inlines_by s (Some (source_of_call s call)) outer)
+      ∙ ap (λ y. before ++ (y ∷ inlines_by s (Some (source_of_call s call)) outer)) named
       ∙ sym (ap (λ r. before ++ inlines_by s line r) first) ∙ so
 
   pub inlines_end : (line : Option SourceValue) (rest : List InlineCall) (so_far all : List CallValue) → rest ≡ [] → so_far ++ inlines_by s line rest ≡ all → so_far ≡ all

@@ -2,7 +2,7 @@
 -- put in place there.
 use Rattle.std.specs.Prelude.{ℕ, ◌-◌, List, [], ◌∷◌, reverse, Option, Some, None}
 use Rattle.std.specs.List.{range_with_len}
-use Rattle.std.specs.Option.{option_map, option_map_or}
+use Rattle.std.specs.Option.{option_and_then, option_map, option_map_or}
 use Rattle.minidump_index.specs.Lookup.{looked_up}
 use Rattle.breakpad_symbols.specs.declared.inline.InlineCall.{InlineCall}
 use Rattle.breakpad_symbols.specs.Function.{FunctionValue, line_in}
@@ -63,6 +63,13 @@ source_in s file line = record { file = file_name s.files file; line = line }
 abbrev pub line_at : SymbolsValue → FunctionValue → ℕ → Option SourceValue
 line_at s f offset = option_map (λ r. source_in s r.file r.line) (line_in f offset)
 
+-- that of a call put in place: without a file where its number isn't known
+abbrev pub source_of_call : SymbolsValue → InlineCall → SourceValue
+source_of_call s call = record {
+  file = option_and_then (file_name s.files) call.file;
+  line = call.line;
+}
+
 -- the values of a function for these numbers, up to the first that has none
 unfoldable pub values_by : {A : Type 0} → (ℕ → Option A) → List ℕ → List A
 values_by value [] = []
@@ -83,13 +90,13 @@ unfoldable pub inlines_by : SymbolsValue → Option SourceValue → List InlineC
 inlines_by s line [] = []
 inlines_by s line (call ∷ outer) =
     record { function = origin_name s.origins call.origin; source = line }
-    ∷ inlines_by s (Some (source_in s call.file call.line)) outer
+    ∷ inlines_by s (Some (source_of_call s call)) outer
 
 -- the source line of the function in which such calls are: of the outermost one, and without calls
 -- this line
 unfoldable pub line_around : SymbolsValue → Option SourceValue → List InlineCall → Option SourceValue
 line_around s line [] = line
-line_around s line (call ∷ outer) = line_around s (Some (source_in s call.file call.line)) outer
+line_around s line (call ∷ outer) = line_around s (Some (source_of_call s call)) outer
 
 -- ---- names
 

@@ -1,11 +1,12 @@
 ghost use Rattle.std.specs.Prelude.{◌≡◌, IfOk, map, reverse};
-ghost use Rattle.std.specs.Option.{option_map};
+ghost use Rattle.std.specs.Option.{option_and_then, option_map};
 ghost use Rattle.breakpad_symbols.specs.Function.{function_of};
-ghost use Rattle.breakpad_symbols.specs.SymbolFile.{symbols_of};
+ghost use Rattle.minidump_bytes.specs.LinuxOsStr.{text_of};
+ghost use Rattle.breakpad_symbols.specs.SymbolFile.{file_name, symbols_of};
 ghost use Rattle.crash_symbols.specs.NameParts.{call_of, function_of as name_value, named_of, source_of};
 ghost use Rattle.crash_symbols.specs.Names.{by_depth, calls_in, function_at, inlines_by, line_around, line_at};
 ghost use Rattle.crash_symbols.specs.Names.{name_at, named_in, names_at, names_in, no_names};
-ghost use Rattle.crash_symbols.specs.Names.{source_in, with_names};
+ghost use Rattle.crash_symbols.specs.Names.{source_in, source_of_call, with_names};
 ghost use Rattle.crash_symbols.specs.Symbols.{known_of};
 
 use crate::Symbols;
@@ -178,6 +179,24 @@ fn source_in<'l>(file: &'l SymbolFile<'l>, number: u32, line: u32) -> SourceLine
     }
 }
 
+// Returns the source line of a call put in place.
+fn source_of_call<'l>(file: &'l SymbolFile<'l>, call: &InlineCall) -> SourceLine<'l>
+    ensures { source_of result ≡ source_of_call (symbols_of file.now) call.now }
+{
+    SourceLine {
+        file: file_of_call(file, call.file),
+        line: call.line,
+    }
+}
+
+// Returns the name of the file of a call, if its number is known.
+fn file_of_call<'l>(file: &'l SymbolFile<'l>, number: Option<u32>) -> Option<LinuxOsStr<'l>>
+    ensures { option_map text_of result
+        ≡ option_and_then (file_name (symbols_of file.now).files) number }
+{
+    file.file_name(number?)
+}
+
 // Returns the calls put in place at an offset of a function, by their depths from 0 on.
 fn calls_in(
     alloc: Global,
@@ -226,7 +245,7 @@ fn inlines_by<'l>(
             function: file.origin_name(call.origin),
             source: line,
         })?;
-        line = Some(source_in(file, call.file, call.line));
+        line = Some(source_of_call(file, &call));
     }
     Ok((line, inlines))
 }

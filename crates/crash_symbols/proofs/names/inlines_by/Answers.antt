@@ -13,10 +13,10 @@ pub loop-call-preserved : goal.loop-call-preserved
 loop-call-preserved c =
     let first : reverse c.loop-call.calls.items ≡ c.in-Some.call ∷ reverse c.pop.new.self.items = last_first _ _ _ c.in-Some.ensures.items in
     record {
-      line = line_more (symbols_of c.args.file.now) (option_map source_of c.loop-call.line) c.in-Some.call (reverse c.pop.new.self.items) _ (source_of c.source_in.result) _
-          first c.source_in.ensures c.loop-call.invariant.line;
-      inlines = inlines_more (symbols_of c.args.file.now) (option_map source_of c.loop-call.line) c.in-Some.call (reverse c.pop.new.self.items) _ (source_of c.source_in.result) _
-          (map call_of c.loop-call.inlines.items) _ _ first c.source_in.ensures
+      line = line_more (symbols_of c.args.file.now) (option_map source_of c.loop-call.line) c.in-Some.call (reverse c.pop.new.self.items) _ (source_of c.source_of_call.result) _
+          first c.source_of_call.ensures c.loop-call.invariant.line;
+      inlines = inlines_more (symbols_of c.args.file.now) (option_map source_of c.loop-call.line) c.in-Some.call (reverse c.pop.new.self.items) _ (source_of c.source_of_call.result) _
+          (map call_of c.loop-call.inlines.items) _ _ first c.source_of_call.ensures
           (ap (λ f. let v : CallValue = record { function = f; source = option_map source_of c.loop-call.line } in v) c.origin_name.ensures)
           (ap (map call_of) c.in_ok-push.ensures.items ∙ map-append call_of c.loop-call.inlines.items _) c.loop-call.invariant.inlines;
     }
