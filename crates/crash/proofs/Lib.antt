@@ -1,8 +1,10 @@
 -- The lemmas of this crate.
+pub mod AfterAll
 mod AfterLast
 pub mod CrashLemmas
 pub mod DirectoryLemmas
 pub mod Found
+pub mod LastLaw
 pub mod LastLemmas
 pub mod Lasts
 pub mod LinuxLemmas
@@ -11,5 +13,6 @@ pub mod ModuleOrder
 pub mod NamedLemmas
 pub mod NumberedFound
 pub mod PaddedLemmas
+pub mod PointLemmas
 pub mod TallyLemmas
 pub mod ThreadLemmas

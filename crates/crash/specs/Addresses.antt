@@ -13,7 +13,7 @@ use Rattle.minidump.specs.Below.MemoryLists.UnifiedInfo.{region_is_readable, reg
 use Rattle.minidump.specs.Below.Modules.UnloadedModule.{UnloadedValue, range_of_unloaded}
 use Rattle.minidump.specs.Below.System.System.{System}
 use Rattle.minidump.specs.Thread.{Thread}
-use Rattle.stack_walk.specs.Lookups.{module_place}
+use Rattle.stack_walk.specs.Lookups.{is_code, module_place}
 use Rattle.crash.specs.declared.addresses.AddressFacts.{AddressFacts}
 use Rattle.crash.specs.declared.addresses.AddressMemory.{AddressMemory}
 use Rattle.crash.specs.declared.addresses.RegionState.{RegionState}
@@ -94,6 +94,11 @@ memory_of region = record {
 abbrev pub memory_at : ContentsValue → ℕ → Option AddressMemory
 memory_at c address = option_map memory_of
     (looked_up range_of_info_region (info_regions c.space.infos) address)
+
+-- code may be at an address: a module contains it, or memory that is known to be executable
+abbrev pub has_code : ContentsValue → ℕ → Bool
+has_code c address = is_code c.space.modules address
+    || option_map_or (λ m. m.is_executable) (memory_at c address) false
 
 -- ---- all of it
 

@@ -1,27 +1,28 @@
 -- Where and why a process crashed: its exceptions, which of them counts, and what is known of the
 -- address of the crash.
-use Rattle.std.specs.Prelude.{ℕ, List, map, Option, Some, None, Result, if◌then◌else◌, string_bytes}
-use Rattle.std.specs.Option.{option_and_then, option_map}
+use Rattle.std.specs.Prelude.{ℕ, ◌==◌, ◌||◌, ◌&&◌, Bool, false, List, map, Option, Some, None, Result}
+use Rattle.std.specs.Prelude.{if◌then◌else◌, string_bytes}
+use Rattle.std.specs.Option.{option_and_then, option_map, option_map_or}
 use Rattle.minidump.specs.declared.Error.{Error}
-use Rattle.minidump.specs.declared.format.MINIDUMP_EXCEPTION.{MINIDUMP_EXCEPTION}
 use Rattle.minidump.specs.Below.Contexts.Context.{map_ok}
 use Rattle.minidump.specs.Below.Reasons.Names.{Lists}
 use Rattle.minidump.specs.Below.Reasons.Reason.{crash_reason}
 use Rattle.minidump.specs.Below.Reasons.ReasonText.{reason_text}
 use Rattle.minidump.specs.Below.System.System.{System}
 use Rattle.minidump.specs.Exception.{Exception, crash_address}
+use Rattle.stack_walk.specs.Frames.{instruction_pointer_in}
 use Rattle.crash.specs.declared.addresses.AddressFacts.{AddressFacts}
 use Rattle.crash.specs.declared.cause.CrashCause.{CrashCause}
 use Rattle.crash.specs.declared.cause.CrashException.{CrashException}
 use Rattle.crash.specs.declared.contexts.ContextProblem.{ContextProblem}
 use Rattle.crash.specs.declared.records.Access.{Access}
 use Rattle.crash.specs.declared.records.Sender.{Sender}
-use Rattle.crash.specs.Addresses.{facts_of}
+use Rattle.crash.specs.Addresses.{facts_of, has_code}
 use Rattle.crash.specs.Contents.{ContentsValue}
-use Rattle.crash.specs.Contexts.{problem_in, system_of}
+use Rattle.crash.specs.Contexts.{any_context, named_bytes, problem_in, system_of}
 use Rattle.crash.specs.Counting.{counted, counting}
-use Rattle.crash.specs.Records.{access_in, description_in, lacks_address, parameters_in}
-use Rattle.crash.specs.Records.{sender_in}
+use Rattle.crash.specs.Records.{access_in, description_in, lacks_address, may_be_instruction}
+use Rattle.crash.specs.Records.{parameters_in, sender_in}
 
 -- an exception: its thread, its code and flags, where it happened, where the record of another one
 -- is, its parameters, and LLDB's text over them; where the system is known, how memory was
@@ -79,28 +80,44 @@ counted_exception c = counted c.exceptions c.counts
 
 -- ---- exceptions
 
--- the address of a crash on a system, unless the record lacks it
-abbrev pub address_on : System → MINIDUMP_EXCEPTION → Option ℕ
-address_on s r = if lacks_address s.os r then None else Some (crash_address s.os s.cpu r)
+-- an address is the instruction pointer of an exception's own context on a system
+abbrev pub is_instruction : System → Exception → ℕ → Bool
+is_instruction s e address = option_map_or (λ f. instruction_pointer_in f.raw == address)
+    (any_context (Some s) e.order e.context) false
+
+-- an address says only where the thread stood: it is the instruction pointer of an exception's own context, and
+-- code may be there. Where none can be, as at 0, the thread jumped to it, and that was the access
+abbrev pub is_where_it_stood : ContentsValue → System → Exception → ℕ → Bool
+is_where_it_stood c s e address = is_instruction s e address && has_code c address
+
+-- the record of an exception on a system has no address of a crash: none at all, or one that says only that
+abbrev pub has_no_address : ContentsValue → System → Exception → Bool
+has_no_address c s e = lacks_address s.os s.cpu e.raw.exception_record
+    || (may_be_instruction s.os e.raw.exception_record
+    && is_where_it_stood c s e (crash_address s.os s.cpu e.raw.exception_record))
+
+-- the address of a crash on a system, unless the record has none
+abbrev pub address_on : ContentsValue → System → Exception → Option ℕ
+address_on c s e = if has_no_address c s e then None
+    else Some (crash_address s.os s.cpu e.raw.exception_record)
 
 -- the address of a crash, where the system is known. A signal that a process sent has none
-abbrev pub address_unless : Option Sender → Option System → MINIDUMP_EXCEPTION → Option ℕ
-address_unless (Some _) system r = None
-address_unless None system r = option_and_then (λ s. address_on s r) system
+abbrev pub address_unless : ContentsValue → Option Sender → Option System → Exception → Option ℕ
+address_unless c (Some _) system e = None
+address_unless c None system e = option_and_then (λ s. address_on c s e) system
 
--- the same of an exception
-abbrev pub address_in : Option System → Exception → Option ℕ
-address_in system e = address_unless (sender_in system e.raw.exception_record) system
-    e.raw.exception_record
+-- the same by who sent the signal
+abbrev pub address_in : ContentsValue → Option System → Exception → Option ℕ
+address_in c system e = address_unless c (sender_in system e.raw.exception_record) system e
 
 -- the words for its reason, where the system is known
 abbrev pub reason_in : Lists → Option System → Exception → Option (List ℕ)
 reason_in names system e = option_map
     (λ s. reason_text names (crash_reason names s.os s.cpu e.raw.exception_record)) system
 
--- an exception on a system
-abbrev pub exception_in : Lists → Option System → Exception → ExceptionValue
-exception_in names system e = record {
+-- an exception of a dump with these contents, on its system
+abbrev exception_by : Lists → ContentsValue → Option System → Exception → ExceptionValue
+exception_by names c system e = record {
   thread = e.thread_id;
   code = e.raw.exception_record.exception_code;
   flags = e.raw.exception_record.exception_flags;
@@ -110,14 +127,18 @@ exception_in names system e = record {
   description = description_in e.raw.exception_record;
   access = access_in system e.raw.exception_record;
   sender = sender_in system e.raw.exception_record;
-  address = address_in system e;
+  address = address_in c system e;
   reason = reason_in names system e;
-  context_problem = problem_in system e.order e.context;
+  context_problem = problem_in system e.order (named_bytes e.raw.thread_context e.context);
 }
+
+-- the same by the contents
+abbrev pub exception_in : Lists → ContentsValue → Exception → ExceptionValue
+exception_in names c e = exception_by names c (system_of c) e
 
 -- the exceptions of a dump, each or why it can't be read
 abbrev pub exceptions_in : Lists → ContentsValue → List (Result ExceptionValue Error)
-exceptions_in names c = map (map_ok (exception_in names (system_of c))) c.threads.exceptions
+exceptions_in names c = map (map_ok (exception_in names c)) c.threads.exceptions
 
 -- ---- the address
 

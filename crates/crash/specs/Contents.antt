@@ -1,6 +1,6 @@
 -- The contents of a minidump: the value of each stream, or the error for which there is none.
 use Rattle.std.specs.Prelude.{ℕ, List, [], length, map, Option, Result, unwrap_or}
-use Rattle.std.specs.Option.{option_map}
+use Rattle.std.specs.Option.{option_map, option_map_or}
 use Rattle.std.specs.Result.{result_err, result_ok}
 use Rattle.minidump.specs.declared.Error.{Error}
 use Rattle.minidump.specs.declared.MinidumpBreakpadInfo.{MinidumpBreakpadInfo}
@@ -32,6 +32,7 @@ use Rattle.minidump.specs.Promise.{assertion_stream, crashpad_info_stream, mac_c
 use Rattle.minidump.specs.Promise.{mac_bootargs_stream, soft_errors_stream, stability_report_stream}
 use Rattle.minidump.specs.Promise.{handle_data_stream, linux_proc_status_stream, linux_environ_stream}
 use Rattle.minidump.specs.Promise.{linux_proc_limits_stream}
+use Rattle.stack_walk.specs.Addresses.{code_bits}
 use Rattle.crash.specs.Space.{first_infos, first_memory}
 use Rattle.crash.specs.declared.contents.SystemStreams.{SystemStreams}
 use Rattle.crash.specs.declared.contents.ThreadStreams.{ThreadStreams}
@@ -194,13 +195,19 @@ process_streams_of s = record {
   limits = map_ok linux_proc_limits_stream.value s.limits;
 }
 
--- all of them
+-- how many of the low bits of a return address are its address, by the system and the modules: all 64 where the
+-- system is unknown
+abbrev pub code_bits_in : Result System Error → List ModuleValue → ℕ
+code_bits_in system modules = option_map_or (λ s. code_bits s.os s.cpu modules) (result_ok system) 64
+
+-- all of them, and how many bits of a return address are its address
 pub record ContentsValue : Type 0 where
   pub system : SystemStreamValues
   pub threads : ThreadStreamValues
   pub space : SpaceStreamValues
   pub messages : MessageStreamValues
   pub process : ProcessStreamValues
+  pub code_bits : ℕ
 
 -- those of a dump
 abbrev pub contents_in : Dump → ContentsValue
@@ -210,6 +217,7 @@ contents_in d = record {
   space = space_streams_in d;
   messages = message_streams_in d;
   process = process_streams_in d;
+  code_bits = code_bits_in (system_streams_in d).system (space_streams_in d).modules;
 }
 
 -- those of a `Contents`
@@ -220,4 +228,5 @@ contents_of c = record {
   space = space_streams_of c.space;
   messages = message_streams_of c.messages;
   process = process_streams_of c.process;
+  code_bits = c.code_bits;
 }

@@ -1,6 +1,6 @@
 -- The registers of a thread, by the context of the exception or its own, whole or cut after its
 -- general registers, or why there are none.
-use Rattle.std.specs.Prelude.{ℕ, ◌-◌, ◌++◌, ◌==◌, ◌&&◌, Bool, false, List, is_none, is_some, length, map}
+use Rattle.std.specs.Prelude.{ℕ, ◌-◌, ◌++◌, ◌==◌, ◌&&◌, Bool, false, List, [], is_none, is_some, length, map}
 use Rattle.std.specs.Prelude.{nat_le, nat_lt, replicate, Option, Some, None}
 use Rattle.std.specs.Prelude.{if◌then◌else◌}
 use Rattle.std.specs.Option.{option_and_then, option_map, option_or}
@@ -9,6 +9,7 @@ use Rattle.minidump.specs.declared.Endian.{Endian}
 use Rattle.minidump.specs.declared.MinidumpContextValidity.TheVariants.{All}
 use Rattle.minidump.specs.declared.MinidumpRawContext.{MinidumpRawContext}
 use Rattle.minidump.specs.declared.MinidumpRawContext.TheVariants.{Amd64, Arm64, OldArm64}
+use Rattle.minidump.specs.declared.format.MINIDUMP_LOCATION_DESCRIPTOR.{MINIDUMP_LOCATION_DESCRIPTOR}
 use Rattle.minidump.specs.declared.system_info.Cpu.{Cpu}
 use Rattle.minidump.specs.declared.system_info.Cpu.TheVariants as cpu
 use Rattle.minidump.specs.Below.Bytes.Span.{record_at}
@@ -179,6 +180,10 @@ abbrev pub context_in : ContentsValue → Option Exception → Thread → Option
 context_in c e t = option_map context_by (found_in c e t)
 
 -- ---- why there are none
+
+-- the bytes of a context at a location: where that has no size they are none, wherever it is
+abbrev pub named_bytes : MINIDUMP_LOCATION_DESCRIPTOR → Option (List ℕ) → Option (List ℕ)
+named_bytes location bytes = if location.data_size == 0 then Some [] else bytes
 
 -- why the bytes of a context give no registers, by whether the system is known and whether it
 -- accepts them

@@ -59,7 +59,7 @@ crash_of_findings c f = record {
 -- what is there and can't be read
 abbrev pub damage_in : DirectoryValue → CauseValue → ThreadsValue → List Damage
 damage_in directory cause threads =
-    damage_by directory.entries cause.exceptions threads.threads
+    damage_by directory.entries directory.regions_outside cause.exceptions threads.threads
 
 -- the crash of a dump, by its contents and by what is found in them
 abbrev crash_with : Dump → ContentsValue → DirectoryValue → CauseValue → ThreadsValue → CrashValue

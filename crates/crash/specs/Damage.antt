@@ -1,7 +1,7 @@
 -- What is there in a dump and can't be read, whether anything else stands in for it or not.
-use Rattle.std.specs.Prelude.{◌-◌, ◌++◌, Bool, false, true, List, length, take, Option, Some, None}
-use Rattle.std.specs.Prelude.{Result, Ok, Err, if◌then◌else◌}
-use Rattle.std.specs.List.{filter_map}
+use Rattle.std.specs.Prelude.{ℕ, ◌-◌, ◌==◌, ◌++◌, Bool, false, true, List, [], length, take, Option, Some}
+use Rattle.std.specs.Prelude.{None, Result, Ok, Err, if◌then◌else◌}
+use Rattle.std.specs.List.{cons_option, filter_map}
 use Rattle.std.specs.Option.{option_map}
 use Rattle.minidump.specs.declared.Error.{Error}
 use Rattle.crash.specs.declared.contexts.ContextProblem.{ContextProblem}
@@ -15,6 +15,10 @@ use Rattle.crash.specs.Threads.{ThreadValue}
 -- a stream that can't be read
 abbrev pub stream_damage : StreamEntry → Option Damage
 stream_damage e = option_map (λ error. damage.Stream e.number error) e.error
+
+-- the regions of the plain list of memory that are outside the file, where there are any
+abbrev pub regions_damage : ℕ → Option Damage
+regions_damage count = if count == 0 then None else Some (damage.Regions count)
 
 -- an exception that can't be read
 abbrev pub exception_error : Result ExceptionValue Error → Option Damage
@@ -45,10 +49,11 @@ context_damage t =
 abbrev pub stack_damage : ThreadValue → Option Damage
 stack_damage t = if t.is_stack_outside then Some (damage.Stack t.id) else None
 
--- all of them: streams, exceptions, contexts of exceptions, contexts of threads, and stacks
-abbrev pub damage_by : List StreamEntry → List (Result ExceptionValue Error) → List ThreadValue
+-- all of them: streams, regions of memory, exceptions, contexts of exceptions, contexts of threads, and stacks
+abbrev pub damage_by : List StreamEntry → ℕ → List (Result ExceptionValue Error) → List ThreadValue
     → List Damage
-damage_by entries exceptions threads = filter_map stream_damage entries
+damage_by entries regions exceptions threads = filter_map stream_damage entries
+    ++ (cons_option (regions_damage regions) []
     ++ (filter_map exception_error (before_last exceptions)
     ++ (filter_map exception_damage exceptions
-    ++ (filter_map context_damage threads ++ filter_map stack_damage threads)))
+    ++ (filter_map context_damage threads ++ filter_map stack_damage threads))))

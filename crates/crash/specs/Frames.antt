@@ -75,6 +75,7 @@ process_in c e = option_map (λ system. record {
   modules = c.space.modules;
   memory = c.space.memory;
   infos = info_regions c.space.infos;
+  code_bits = c.code_bits;
 }) (result_ok c.system.system)
 
 -- the stack and the context by which a thread is walked, of a `Stack` and a context

@@ -1,9 +1,25 @@
 -- The last item of a list that is chosen.
-use Rattle.std.specs.Prelude.{ℕ, ◌≡◌, Bool, List, Option, find, reverse}
+use Rattle.std.specs.Prelude.{ℕ, ◌≡◌, ◌++◌, ◌∷◌, All, Bool, IsTrue, List, MatchOption, Option, find, length}
+use Rattle.std.specs.Prelude.{not, reverse}
 use Rattle.std.specs.List.{enumerate_from}
 use Rattle.std.specs.Option.{option_map}
 
--- the index of the last item that is chosen: none where no item is
+-- an index is that of the last item that is chosen: the item there is, and none after it is
+pub record IsLast {X : Type 0} (is_chosen : X → Bool) (items : List X) (index : ℕ) : Type 0 where
+  pub earlier : List X
+  pub item : X
+  pub later : List X
+  pub parts : items ≡ earlier ++ (item ∷ later)
+  pub place : index ≡ length earlier
+  pub chosen : IsTrue (is_chosen item)
+  pub none_later : All (λ x. IsTrue (not (is_chosen x))) later
+
+-- the same where there is one: there is none only where no item is chosen
+abbrev pub IsLastOrNone : {X : Type 0} → (X → Bool) → List X → Option ℕ → Type 0
+IsLastOrNone is_chosen items index =
+    MatchOption index (All (λ x. IsTrue (not (is_chosen x))) items) (IsLast is_chosen items)
+
+-- this index as a function, by which it stands in other definitions: that of the first item from the end
 abbrev pub last_index : {X : Type 0} → (X → Bool) → List X → Option ℕ
 last_index is_chosen items =
     option_map (λ p. p.0) (find (λ p. is_chosen p.1) (reverse (enumerate_from 0 items)))

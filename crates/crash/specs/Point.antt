@@ -1,6 +1,6 @@
 -- Where a thread stands: what is known of its instruction pointer and of its registers, the code there,
 -- the words from its stack pointer up, and the flags and the segments of its processor.
-use Rattle.std.specs.Prelude.{ℕ, ◌+◌, ◌-◌, ◌*◌, ◌^◌, List, [], ◌∷◌, codes, drop, map, nat_lt}
+use Rattle.std.specs.Prelude.{ℕ, ◌+◌, ◌-◌, ◌*◌, List, [], ◌∷◌, codes, drop, map}
 use Rattle.std.specs.Prelude.{Bool, bytes_eq, filter, not, take}
 use Rattle.std.specs.Prelude.{Option, None, if◌then◌else◌}
 use Rattle.std.specs.List.{filter_map, range_with_len}
@@ -11,6 +11,7 @@ use Rattle.minidump.specs.declared.MinidumpRawContext.TheVariants.{Amd64, Arm, A
 use Rattle.minidump.specs.Below.MemoryLists.Unified.{UnifiedRegion, UnifiedRegions}
 use Rattle.minidump.specs.Below.Modules.Module.{ModuleValue}
 use Rattle.minidump.specs.Below.System.Cpu.{pointer_bytes}
+use Rattle.stack_walk.specs.Addresses.{is_address}
 use Rattle.stack_walk.specs.Frames.{StackValue, instruction_pointer_in, pointer_at, stack_pointer_in}
 use Rattle.stack_walk.specs.Lookups.{module_place}
 use Rattle.crash.specs.declared.addresses.AddressFacts.{AddressFacts}
@@ -81,9 +82,9 @@ word_by modules address value = record {
   «module» = module_place modules value;
 }
 
--- the word that a stack holds at an address, which has at most 64 bits
+-- the word that a stack holds at an address
 abbrev pub word_in : StackValue → ℕ → Option StackWord
-word_in s address = if nat_lt address (2 ^ 64)
+word_in s address = if is_address s.width address
     then option_map (word_by s.modules address) (pointer_at s address) else None
 
 -- the word of a number from an address up

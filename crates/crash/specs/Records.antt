@@ -1,7 +1,7 @@
 -- What the record of an exception says: the parameters, LLDB's text over them, and by its system
 -- how memory was accessed, and who sent a signal.
-use Rattle.std.specs.Prelude.{ℕ, codes, false, true, ◌%◌, ◌/◌, ◌^◌, ◌==◌, ◌||◌, ◌&&◌, nat_le, nat_lt, not, Bool, List}
-use Rattle.std.specs.Prelude.{min}
+use Rattle.std.specs.Prelude.{ℕ, codes, false, true, ◌-◌, ◌%◌, ◌/◌, ◌^◌, ◌==◌, ◌||◌, ◌&&◌, nat_le, nat_lt, not, Bool}
+use Rattle.std.specs.Prelude.{List, min}
 use Rattle.std.specs.Prelude.{slice_index, take, length, Option, Some, None, if◌then◌else◌}
 use Rattle.std.specs.Int.{to_le_bytes, w64}
 use Rattle.std.specs.List.{before_first, flat_map}
@@ -9,8 +9,9 @@ use Rattle.std.specs.Option.{option_and_then, option_map_or}
 use Rattle.std.specs.Str.Lossy.{utf8_lossy}
 use Rattle.minidump.specs.declared.format.MINIDUMP_EXCEPTION.{MINIDUMP_EXCEPTION}
 use Rattle.minidump.specs.declared.system_info.Cpu.{Cpu}
+use Rattle.minidump.specs.declared.system_info.Cpu.TheVariants.{X86, X86_64}
 use Rattle.minidump.specs.declared.system_info.Os.{Os}
-use Rattle.minidump.specs.declared.system_info.Os.TheVariants.{Android, Linux, MacOs, Windows}
+use Rattle.minidump.specs.declared.system_info.Os.TheVariants.{Android, Ios, Linux, MacOs, Windows}
 use Rattle.minidump.specs.declared.system_info.PointerWidth.{PointerWidth}
 use Rattle.minidump.specs.declared.system_info.PointerWidth.TheVariants.{Bits32}
 use Rattle.minidump.specs.Below.System.Cpu.{width_of}
@@ -35,33 +36,62 @@ parameter_bytes r = flat_map (to_le_bytes w64) r.exception_information
 abbrev pub text_unless_empty : List ℕ → Option (List ℕ)
 text_unless_empty bytes = if length bytes == 0 then None else Some (utf8_lossy bytes)
 
--- the text that LLDB writes over the parameters, before its first 0, if there is one: the flags are then
--- LLDB_FLAG of llvm's BinaryFormat/Minidump.h, C's constant 'LLDB'
+-- the flags of a record are those of LLDB, which then writes a text over the parameters: LLDB_FLAG of llvm's
+-- BinaryFormat/Minidump.h, C's constant 'LLDB'
+abbrev pub has_lldb_flag : MINIDUMP_EXCEPTION → Bool
+has_lldb_flag r = r.exception_flags == 0x4c4c_4442
+
+-- that text, before its first 0, if there is one
 abbrev pub description_in : MINIDUMP_EXCEPTION → Option (List ℕ)
-description_in r = if r.exception_flags == 0x4c4c_4442
+description_in r = if has_lldb_flag r
     then text_unless_empty (before_first (λ b. b == 0) (parameter_bytes r)) else None
 
 -- ---- accesses
 
--- how memory was accessed, by the first parameter of winnt.h's EXCEPTION_ACCESS_VIOLATION and
--- EXCEPTION_IN_PAGE_ERROR
+-- an exception is an access to memory, by its code on an operating system: Linux's SIGBUS and SIGSEGV,
+-- macOS's EXC_BAD_ACCESS, and winnt.h's EXCEPTION_ACCESS_VIOLATION and EXCEPTION_IN_PAGE_ERROR
+abbrev pub is_access : Os → ℕ → Bool
+is_access Linux code = code == 7 || code == 11
+is_access Android code = code == 7 || code == 11
+is_access MacOs code = code == 1
+is_access Ios code = code == 1
+is_access Windows code = code == 0xc0000005 || code == 0xc0000006
+is_access _ code = false
+
+-- an address is the one that Windows gives for a general protection, which x86 and x86-64 have: all bits of
+-- a pointer are set. Other processors have the address of each access
+abbrev pub is_protection_address : Cpu → ℕ → Bool
+is_protection_address X86 address = address % 2 ^ 32 == 2 ^ 32 - 1
+is_protection_address X86_64 address = address == 2 ^ 64 - 1
+is_protection_address _ address = false
+
+-- the record of Windows for a general protection, as for an address that isn't canonical: the kernel has no
+-- address for it, nor how memory was accessed, and gives a read of the last address. A true read there can't be
+-- told from it
+abbrev pub is_protection : Cpu → MINIDUMP_EXCEPTION → Bool
+is_protection cpu r = (r.exception_code == 0xc0000005 && nat_le 2 r.number_parameters)
+    && (slice_index r.exception_information 0 == 0
+    && is_protection_address cpu (slice_index r.exception_information 1))
+
+-- how memory was accessed, by the first parameter of an access of Windows
 abbrev pub access_of_number : ℕ → Option Access
 access_of_number n = if n == 0 then Some Read
     else (if n == 1 then Some Write else (if n == 8 then Some Execute else None))
 
--- the exceptions that have this parameter
-abbrev has_access : MINIDUMP_EXCEPTION → Bool
-has_access r = (r.exception_code == 0xc0000005 || r.exception_code == 0xc0000006)
-    && nat_le 1 r.number_parameters
+-- the exceptions whose first parameter this is
+abbrev pub has_access : Cpu → MINIDUMP_EXCEPTION → Bool
+has_access cpu r = (is_access Windows r.exception_code && nat_le 1 r.number_parameters)
+    && (not (has_lldb_flag r) && not (is_protection cpu r))
 
--- how memory was accessed, by a record of an operating system
-abbrev pub access_on : Os → MINIDUMP_EXCEPTION → Option Access
-access_on Windows r = if has_access r then access_of_number (slice_index r.exception_information 0) else None
-access_on _ r = None
+-- how memory was accessed, by a record of an operating system on a processor
+abbrev pub access_on : Os → Cpu → MINIDUMP_EXCEPTION → Option Access
+access_on Windows cpu r =
+    if has_access cpu r then access_of_number (slice_index r.exception_information 0) else None
+access_on _ cpu r = None
 
 -- the same where the system is known
 abbrev pub access_in : Option System → MINIDUMP_EXCEPTION → Option Access
-access_in system r = option_and_then (λ s. access_on s.os r) system
+access_in system r = option_and_then (λ s. access_on s.os s.cpu r) system
 
 -- ---- signals
 
@@ -164,11 +194,17 @@ sender_in system r = option_and_then (λ s. sender_on s.os s.cpu r) system
 abbrev pub is_fault : ℕ → Bool
 is_fault signal = signal == 4 || signal == 5 || signal == 7 || signal == 8 || signal == 11
 
--- an address of 0 says nothing: there is no fault, or it is the kernel's own without an address, by SI_KERNEL,
--- 0x80. So are those of a general protection, as for an address that isn't canonical, and of x86's `int3`
+-- a fault has no `si_addr`, by its `si_code`: SI_KERNEL, 0x80, as for a general protection, by an address that
+-- isn't canonical, and for x86's `int3`; SEGV_MTEAERR, 8, and SEGV_CPERR, 10, of SIGSEGV; BUS_ADRALN, 1, of SIGBUS
+-- on x86. Elsewhere 0 is aligned, so that this `si_code` is never at 0
+abbrev pub is_without_address : ℕ → ℕ → Bool
+is_without_address signal code = code == 0x80
+    || (signal == 11 && (code == 8 || code == 10)) || (signal == 7 && code == 1)
+
+-- an address of 0 says nothing: there is no fault, or one without an address
 abbrev pub has_no_fault_address : MINIDUMP_EXCEPTION → Bool
 has_no_fault_address r = r.exception_address == 0
-    && (not (is_fault r.exception_code) || r.exception_flags == 0x80)
+    && (not (is_fault r.exception_code) || is_without_address r.exception_code r.exception_flags)
 
 -- macOS's kernel gives 0 for a general protection of x86, as for an address that isn't canonical: EXC_BAD_ACCESS, 1,
 -- with EXC_I386_GPFLT, 13 (mach/i386/exception.h)
@@ -176,9 +212,27 @@ abbrev pub has_no_protection_address : MINIDUMP_EXCEPTION → Bool
 has_no_protection_address r = r.exception_address == 0
     && (r.exception_code == 1 && r.exception_flags == 13)
 
--- the record of an exception on an operating system has no address of a crash
-abbrev pub lacks_address : Os → MINIDUMP_EXCEPTION → Bool
-lacks_address Linux r = has_no_fault_address r
-lacks_address Android r = has_no_fault_address r
-lacks_address MacOs r = has_no_protection_address r
-lacks_address _ r = false
+-- the second parameter of an access of Windows, which is its address, says nothing: LLDB's text stands over it,
+-- or it is that of a general protection
+abbrev pub has_no_access_address : Cpu → MINIDUMP_EXCEPTION → Bool
+has_no_access_address cpu r = (has_lldb_flag r
+    && (is_access Windows r.exception_code && nat_le 2 r.number_parameters)) || is_protection cpu r
+
+-- the record of an exception on an operating system and a processor has no address of a crash
+abbrev pub lacks_address : Os → Cpu → MINIDUMP_EXCEPTION → Bool
+lacks_address Linux cpu r = has_no_fault_address r
+lacks_address Android cpu r = has_no_fault_address r
+lacks_address MacOs cpu r = has_no_protection_address r
+lacks_address Windows cpu r = has_no_access_address cpu r
+lacks_address _ cpu r = false
+
+-- the flags of an access don't say why it failed: they are LLDB's or, but on Windows, 0, as LLDB wrote them
+-- before
+abbrev pub says_no_cause : Os → MINIDUMP_EXCEPTION → Bool
+says_no_cause Windows r = has_lldb_flag r
+says_no_cause _ r = r.exception_flags == 0 || has_lldb_flag r
+
+-- the record of an access whose address may be that of the instruction: LLDB writes the program counter there,
+-- and has such flags
+abbrev pub may_be_instruction : Os → MINIDUMP_EXCEPTION → Bool
+may_be_instruction os r = is_access os r.exception_code && says_no_cause os r

@@ -1,5 +1,6 @@
 -- The release of a Linux system, by the keys of lsb-release or of os-release.
-use Rattle.std.specs.Prelude.{ℕ, ◌||◌, List, bytes_eq, codes, find, Option, Result, string_bytes}
+use Rattle.std.specs.Prelude.{ℕ, ◌-◌, ◌==◌, ◌||◌, ◌&&◌, Bool, List, bytes_eq, codes, find, length, nat_le}
+use Rattle.std.specs.Prelude.{slice_index, slice_range, Option, Result, if◌then◌else◌, string_bytes}
 use Rattle.std.specs.Option.{option_map}
 use Rattle.std.specs.Result.{result_ok}
 use Rattle.std.specs.Str.Lossy.{utf8_lossy}
@@ -32,9 +33,20 @@ first_value_in pairs key other = option_map (λ p. p.1)
 abbrev pub first_value : List ℕ → List ℕ → List ℕ → Option (List ℕ)
 first_value text key other = first_value_in (pairs_of 0x3d text) key other
 
+-- a value has two bytes or more, and a single quote at each end
+abbrev pub is_single_quoted : List ℕ → Bool
+is_single_quoted value = nat_le 2 (length value)
+    && (slice_index value 0 == 0x27 && slice_index value (length value - 1) == 0x27)
+
+-- a value without the single quotes at its ends, where it has both. os-release(5) allows them as well as double
+-- ones, which the value of a pair doesn't have
+unfoldable pub without_single_quotes : List ℕ → List ℕ
+without_single_quotes value = if is_single_quoted value then slice_range value 1 (length value - 1) else value
+
 -- the same as a text, with U+FFFD for what isn't UTF-8
 abbrev pub text_value : List ℕ → List ℕ → List ℕ → Option (List ℕ)
-text_value text key other = option_map utf8_lossy (first_value text key other)
+text_value text key other =
+    option_map (λ value. utf8_lossy (without_single_quotes value)) (first_value text key other)
 
 -- the release of a text: each value by its key in lsb-release, or by that in os-release
 abbrev pub release_by : List ℕ → ReleaseValue

@@ -1,7 +1,7 @@
 -- The threads of a process, and which of them crashed.
 use Rattle.std.specs.Prelude.{ℕ, ◌==◌, ◌++◌, Bool, false, true, List, [], ◌∷◌, map}
 use Rattle.std.specs.Prelude.{is_some, Option, Some, None, Result, Ok, Err}
-use Rattle.std.specs.Prelude.{if◌then◌else◌, length, slice_get, string_bytes, unwrap_or}
+use Rattle.std.specs.Prelude.{if◌then◌else◌, slice_get, string_bytes, unwrap_or}
 use Rattle.std.specs.Option.{option_and_then, option_map}
 use Rattle.std.specs.Result.{result_ok}
 use Rattle.minidump.specs.declared.CrashReason.{CrashReason}
@@ -26,7 +26,7 @@ use Rattle.crash.specs.declared.stacks.StackRange.{StackRange}
 use Rattle.crash.specs.Contents.{ContentsValue}
 use Rattle.crash.specs.declared.contexts.ContextOrigin.TheVariants.{OfException}
 use Rattle.crash.specs.Contexts.{ContextValue, context_at, context_by, context_in, context_of}
-use Rattle.crash.specs.Contexts.{of_origin, problem_in, system_of}
+use Rattle.crash.specs.Contexts.{named_bytes, of_origin, problem_in, system_of}
 use Rattle.crash.specs.Counting.{counting_exception}
 use Rattle.crash.specs.Frames.{CrashWalkValue, crash_walk_of, exception_walk, exception_walked}
 use Rattle.crash.specs.Frames.{thread_walk, thread_walked}
@@ -103,7 +103,7 @@ thread_in names scan c e t = record {
   is_listed = true;
   name = name_in c.threads.names t.raw.thread_id;
   context = context_in c e t;
-  context_problem = problem_in (system_of c) t.order t.context;
+  context_problem = problem_in (system_of c) t.order (named_bytes t.raw.thread_context t.context);
   stack = named_stack t.raw.stack;
   stack_memory = stack_memory c t;
   is_stack_outside = is_outside t;
@@ -179,20 +179,14 @@ extra_walked c (Some e) =
     if has_thread e.thread_id c.threads.threads then None else exception_walked c e
 extra_walked c None = None
 
--- those of an entry of the list, or, where there is none, of the thread after them
-abbrev pub walked_of_entry : ContentsValue → Option Exception → Option Thread → Bool
-    → Option (StackValue × MinidumpContext)
-walked_of_entry c e (Some t) is_next = thread_walked c e t
-walked_of_entry c e None is_next = if is_next then extra_walked c e else None
-
--- an index is the one after those of a list
-abbrev pub is_next : Result (List Thread) Error → ℕ → Bool
-is_next threads index = index == length (entries_in threads)
+-- those of each thread of the list, and after them of the thread that it lacks
+abbrev pub all_walked : ContentsValue → Option Exception → List (Option (StackValue × MinidumpContext))
+all_walked c e =
+    map (thread_walked c e) (entries_in c.threads.threads) ++ (extra_walked c e ∷ [])
 
 -- those of the thread of an index
 abbrev pub walked_by : ContentsValue → Option Exception → ℕ → Option (StackValue × MinidumpContext)
-walked_by c e index = walked_of_entry c e (slice_get (entries_in c.threads.threads) index)
-    (is_next c.threads.threads index)
+walked_by c e index = option_and_then (λ w. w) (slice_get (all_walked c e) index)
 
 -- the same by the exception that counts
 abbrev pub walked_at : ContentsValue → ℕ → Option (StackValue × MinidumpContext)

@@ -1,12 +1,13 @@
 //! What is known of an address.
-ghost use Rattle.std.specs.Prelude.{◌≡◌, [], map, unwrap_or};
+ghost use Rattle.std.specs.Prelude.{◌≡◌, [], false, map, unwrap_or};
+ghost use Rattle.std.specs.Option.{option_map_or};
 ghost use Rattle.std.specs.Result.{result_ok};
 ghost use Rattle.minidump.specs.Below.Contexts.Context.{map_ok};
 ghost use Rattle.minidump.specs.Below.Index.Lookup.{has_address};
 ghost use Rattle.minidump.specs.Below.MemoryLists.UnifiedInfo.{info_region};
 ghost use Rattle.minidump.specs.Below.Modules.UnloadedModule.{range_of_unloaded, unloaded_of};
 ghost use Rattle.minidump.specs.Promise.{thread_list_stream, unloaded_module_list_stream};
-ghost use Rattle.crash.specs.Addresses.{canonical_on, facts_of, has_stack, is_below_stack};
+ghost use Rattle.crash.specs.Addresses.{canonical_on, facts_of, has_code, has_stack, is_below_stack};
 ghost use Rattle.crash.specs.Addresses.{is_canonical, is_guarded, is_placed, memory_at, memory_of};
 ghost use Rattle.crash.specs.Addresses.{null_offset, stack_above, stack_at, state_of};
 ghost use Rattle.crash.specs.Addresses.{state_of_number, unloaded_at};
@@ -210,6 +211,25 @@ fn is_below_stack(address: u64, stack: Option<StackRange>) -> bool
 }
 
 // ---- memory
+
+// Tells whether code may be at an address: whether a module contains it, or memory that is known to be
+// executable.
+pub(crate) fn has_code(contents: &Contents<'_>, address: u64) -> bool
+    ensures { result ≡ has_code (contents_of contents.now) address }
+{
+    contents.space.modules.module_at_address(address).is_some()
+        || is_executable(memory_at(contents, address))
+}
+
+// Tells whether memory is known to be executable.
+fn is_executable(memory: Option<AddressMemory>) -> bool
+    ensures { result ≡ option_map_or (λ m. m.is_executable) memory false }
+{
+    match memory {
+        Some(memory) => memory.is_executable,
+        None => false,
+    }
+}
 
 // Returns what is known of the memory that contains an address.
 fn memory_at(contents: &Contents<'_>, address: u64) -> Option<AddressMemory>

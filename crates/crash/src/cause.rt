@@ -2,22 +2,23 @@ ghost use Rattle.std.specs.Prelude.{◌≡◌, IfOk, IsOkUnless, map, string_byt
 ghost use Rattle.std.specs.Option.{option_copied, option_map};
 ghost use Rattle.minidump.specs.Below.Contexts.Context.{map_ok};
 ghost use Rattle.minidump.specs.Promise.{exception_stream, system_info_stream};
+ghost use Rattle.stack_walk.specs.Frames.{instruction_pointer_in};
 ghost use Rattle.crash.specs.Cause.{address_at, address_on, address_unless, cause_in, cause_of};
 ghost use Rattle.crash.specs.Cause.{counted_exception, exception_in, exception_of, exceptions_in};
-ghost use Rattle.crash.specs.Cause.{reason_in};
+ghost use Rattle.crash.specs.Cause.{has_no_address, is_instruction, is_where_it_stood, reason_in};
 ghost use Rattle.crash.specs.Contents.{contents_of};
-ghost use Rattle.crash.specs.Contexts.{system_of};
 ghost use Rattle.crash.specs.Counting.{counted};
 
-use crate::addresses::{AddressFacts, facts_of};
+use crate::addresses::{AddressFacts, facts_of, has_code};
 use crate::contents::Contents;
-use crate::contexts::{ContextProblem, problem_in};
+use crate::contexts::{ContextProblem, FoundContext, context_with, named_bytes, problem_in};
 use crate::counting::counting;
 use crate::each::{MakeItem, make_items};
 use crate::records::{
-    Access, Sender, access_of, description_of, lacks_address, parameters_of, sender_of,
+    Access, Sender, access_of, description_of, lacks_address, may_be_instruction, parameters_of,
+    sender_of,
 };
-use minidump::{CodeNames, Error, MinidumpException, MinidumpSystemInfo};
+use minidump::{CodeNames, Error, MinidumpContext, MinidumpException, MinidumpSystemInfo};
 use std::alloc::Global;
 
 /// Where and why a process crashed.
@@ -63,7 +64,8 @@ pub struct CrashException {
     /// nothing, and `LLDB` (0x4c4c4442) in the flags; `None` for other flags, and for an empty text. The
     /// text ends before its first NUL, or has all 120 bytes; U+FFFD stands for what isn't UTF-8.
     pub description: Option<String>,
-    /// How memory was accessed, if it is an access violation or an in-page error of Windows.
+    /// How memory was accessed, if it is an access violation or an in-page error of Windows, and `None`
+    /// for a general protection, whose record has no access.
     pub access: Option<Access>,
     /// The process that sent the signal, if one did, on Linux and Android. The address of the
     /// record then has the id of the process in the low 32 bits and that of its user in the high
@@ -80,7 +82,15 @@ pub struct CrashException {
     /// that a process sent, and on Linux and Android if it is 0, but for SIGILL, SIGTRAP, SIGBUS,
     /// SIGFPE and SIGSEGV, which have an address unless the kernel sent them without one, by
     /// SI_KERNEL, as for an access to an address that isn't canonical. On macOS such an access is an
-    /// EXC_BAD_ACCESS with EXC_I386_GPFLT, which has no address either if it is 0.
+    /// EXC_BAD_ACCESS with EXC_I386_GPFLT, which has no address either if it is 0. On Windows it is an
+    /// access violation that reads the last address, which has none on x86 and x86-64.
+    ///
+    /// `None` also for an access whose flags don't say why it failed, if its address is the instruction
+    /// pointer of its own context and code may be there, by a module or by executable memory: LLDB
+    /// writes that address, whatever was accessed. Such flags are LLDB's and, but on Windows, 0; the
+    /// accesses are SIGSEGV and SIGBUS, EXC_BAD_ACCESS of macOS and iOS, and the access violations and
+    /// in-page errors of Windows. On Windows LLDB's flags also say that a text stands in the place of an
+    /// address in the parameters.
     pub address: Option<u64>,
     /// The reason of the crash in words, or `None` without system information.
     pub reason: Option<String>,
@@ -138,7 +148,6 @@ impl<'a> MakeItem<Result<MinidumpException<'a>, Error>> for EachException<'_, 'a
     ghost use Rattle.minidump.specs.Promise.{exception_stream};
     ghost use Rattle.crash.specs.Cause.{ExceptionValue, exception_in, exception_of};
     ghost use Rattle.crash.specs.Contents.{contents_of};
-    ghost use Rattle.crash.specs.Contexts.{system_of};
 
     type Made = Result<CrashException, Error>;
 
@@ -150,8 +159,7 @@ impl<'a> MakeItem<Result<MinidumpException<'a>, Error>> for EachException<'_, 'a
 
     ghost value_of = { map_ok exception_of };
 
-    ghost made_of = { λ e. map_ok
-        (exception_in e.names.now (system_of (contents_of e.contents.now))) };
+    ghost made_of = { λ e. map_ok (exception_in e.names.now (contents_of e.contents.now)) };
 
     fn make_item(
         &self,
@@ -173,12 +181,13 @@ fn exception_of(
     names: &CodeNames<'_>,
 ) -> Result<CrashException, Error>
     ensures exception { IfOk result (λ e. exception_of e ≡ exception_in names.now
-        (system_of (contents_of contents.now)) (exception_stream.value exception.now)) }
+        (contents_of contents.now) (exception_stream.value exception.now)) }
     ensures memory { IsOkUnless result Error.OutOfMemory }
 {
     let system = contents.system.system.as_ref().ok();
     let record = &exception.raw.exception_record;
     let sender = sender_of(system, record);
+    let bytes = named_bytes(&exception.raw.thread_context, exception.context_bytes());
     Ok(CrashException {
         thread: exception.thread_id,
         code: record.exception_code,
@@ -189,38 +198,95 @@ fn exception_of(
         description: description_of(alloc, record)?,
         access: access_of(system, record),
         sender,
-        address: address_unless(sender, exception, system),
+        address: address_unless(contents, sender, exception, system),
         reason: reason_of(alloc, exception, system, names)?,
-        context_problem: problem_in(contents, exception.endian(), exception.context_bytes()),
+        context_problem: problem_in(contents, exception.endian(), bytes),
     })
 }
 
 // Returns the address of the crash, unless a process sent the signal.
 fn address_unless(
+    contents: &Contents<'_>,
     sender: Option<Sender>,
     exception: &MinidumpException<'_>,
     system: Option<&MinidumpSystemInfo>,
 ) -> Option<u64>
-    ensures { result ≡ address_unless sender
+    ensures { result ≡ address_unless (contents_of contents.now) sender
         (option_map system_info_stream.value (option_copied system.entry))
-        exception.now.raw.exception_record }
+        (exception_stream.value exception.now) }
 {
     match (sender, system) {
-        (None, Some(system)) => address_on(exception, system),
+        (None, Some(system)) => address_on(contents, exception, system),
         _ => None,
     }
 }
 
-// Returns the address of the crash on a system, unless the record lacks it.
-fn address_on(exception: &MinidumpException<'_>, system: &MinidumpSystemInfo) -> Option<u64>
-    ensures { result ≡ address_on (system_info_stream.value system.now)
-        exception.now.raw.exception_record }
+// Returns the address of the crash on a system, unless the record has none.
+fn address_on(
+    contents: &Contents<'_>,
+    exception: &MinidumpException<'_>,
+    system: &MinidumpSystemInfo,
+) -> Option<u64>
+    ensures { result ≡ address_on (contents_of contents.now)
+        (system_info_stream.value system.now) (exception_stream.value exception.now) }
 {
-    if lacks_address(system.os, &exception.raw.exception_record) {
+    if has_no_address(contents, exception, system) {
         None
     } else {
         Some(exception.get_crash_address(system.os, system.cpu))
     }
+}
+
+// Tells whether the record of an exception has no address of a crash: none at all, or one that says
+// only where the thread stood.
+fn has_no_address(
+    contents: &Contents<'_>,
+    exception: &MinidumpException<'_>,
+    system: &MinidumpSystemInfo,
+) -> bool
+    ensures { result ≡ has_no_address (contents_of contents.now)
+        (system_info_stream.value system.now) (exception_stream.value exception.now) }
+{
+    let record = &exception.raw.exception_record;
+    let address = exception.get_crash_address(system.os, system.cpu);
+    lacks_address(system.os, system.cpu, record)
+        || (may_be_instruction(system.os, record)
+            && is_where_it_stood(contents, exception, system, address))
+}
+
+// Tells whether an address says only where the thread of an exception stood.
+fn is_where_it_stood(
+    contents: &Contents<'_>,
+    exception: &MinidumpException<'_>,
+    system: &MinidumpSystemInfo,
+    address: u64,
+) -> bool
+    ensures { result ≡ is_where_it_stood (contents_of contents.now)
+        (system_info_stream.value system.now) (exception_stream.value exception.now) address }
+{
+    is_instruction(exception, system, address) && has_code(contents, address)
+}
+
+// Tells whether an address is the instruction pointer of an exception's own context.
+fn is_instruction(
+    exception: &MinidumpException<'_>,
+    system: &MinidumpSystemInfo,
+    address: u64,
+) -> bool
+    ensures { result ≡ is_instruction (system_info_stream.value system.now)
+        (exception_stream.value exception.now) address }
+{
+    match context_with(system, exception) {
+        Some(found) => instruction_of(&found) == address,
+        None => false,
+    }
+}
+
+// Returns the instruction pointer of a context.
+fn instruction_of(found: &FoundContext) -> u64
+    ensures { result ≡ instruction_pointer_in found.now.raw }
+{
+    MinidumpContext::from_raw(found.raw).get_instruction_pointer()
 }
 
 // Makes the words for the reason of the crash.

@@ -1,6 +1,8 @@
 ghost use Rattle.std.specs.Prelude.{◌≡◌, IfOk, IsOkUnless};
+ghost use Rattle.minidump.specs.Below.Contexts.Context.{map_ok};
 ghost use Rattle.minidump.specs.DumpValue.{dump_of};
-ghost use Rattle.crash.specs.Contents.{contents_in, contents_of};
+ghost use Rattle.minidump.specs.Promise.{module_list_stream, system_info_stream};
+ghost use Rattle.crash.specs.Contents.{code_bits_in, contents_in, contents_of};
 ghost use Rattle.crash.specs.Contents.{message_streams_in, message_streams_of};
 ghost use Rattle.crash.specs.Contents.{process_streams_in, process_streams_of};
 ghost use Rattle.crash.specs.Contents.{system_streams_in, system_streams_of};
@@ -11,9 +13,11 @@ use minidump::{
     Error, Minidump, MinidumpAssertion, MinidumpBreakpadInfo, MinidumpCrashpadInfo,
     MinidumpException, MinidumpHandleDataStream, MinidumpLinuxCpuInfo, MinidumpLinuxEnviron,
     MinidumpLinuxLsbRelease, MinidumpLinuxProcLimits, MinidumpLinuxProcStatus, MinidumpMacBootargs,
-    MinidumpMacCrashInfo, MinidumpMiscInfo, MinidumpSoftErrors, MinidumpSystemInfo,
-    MinidumpThreadInfoList, MinidumpThreadList, MinidumpThreadNames, StabilityReport,
+    MinidumpMacCrashInfo, MinidumpMiscInfo, MinidumpModuleList, MinidumpSoftErrors,
+    MinidumpSystemInfo, MinidumpThreadInfoList, MinidumpThreadList, MinidumpThreadNames,
+    StabilityReport,
 };
+use stack_walk::code_bits;
 use std::alloc::Global;
 
 /// The streams of the system, each as the format has it: the stream, or the error for which there
@@ -92,6 +96,9 @@ pub struct Contents<'a> {
     pub messages: MessageStreams<'a>,
     /// The streams of the process.
     pub process: ProcessStreams<'a>,
+    /// How many of the low bits of a return address are its address, as [`code_bits`] returns it for the
+    /// system and the modules; 64 without system information. The walks of all threads have it.
+    pub code_bits: u32,
 }
 
 /// Reads the streams of a dump, each once. The only error is [`Error::OutOfMemory`].
@@ -101,6 +108,7 @@ pub(crate) fn read_contents<'a>(alloc: Global, dump: &Minidump<'a>) -> Result<Co
 {
     let (system, threads) = crash_streams(alloc, dump)?;
     let space = space_streams(alloc, dump)?;
+    let code_bits = code_bits_of(&system.system, &space.modules);
     let (messages, process) = said_streams(alloc, dump)?;
     Ok(Contents {
         system,
@@ -108,7 +116,19 @@ pub(crate) fn read_contents<'a>(alloc: Global, dump: &Minidump<'a>) -> Result<Co
         space,
         messages,
         process,
+        code_bits,
     })
+}
+
+// Returns how many of the low bits of a return address are its address.
+fn code_bits_of(system: &Result<MinidumpSystemInfo, Error>, modules: &MinidumpModuleList) -> u32
+    ensures { result ≡ code_bits_in (map_ok system_info_stream.value system.now)
+        (module_list_stream.value modules.now) }
+{
+    match system {
+        Ok(system) => code_bits(system.os, system.cpu, modules),
+        Err(_) => 64,
+    }
 }
 
 // Reads the streams of the system, and those of the crash and its threads.

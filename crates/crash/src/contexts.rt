@@ -7,13 +7,13 @@ ghost use Rattle.minidump.specs.Thread.{accepted_context, thread_of};
 ghost use Rattle.crash.specs.Contents.{contents_of};
 ghost use Rattle.crash.specs.Contexts.{any_context, context_at, context_by, context_of, context_on};
 ghost use Rattle.crash.specs.Contexts.{first_found, first_of, found_in, has_general, lengths};
-ghost use Rattle.crash.specs.Contexts.{of_origin, old_arm64, old_on};
+ghost use Rattle.crash.specs.Contexts.{named_bytes, of_origin, old_arm64, old_on};
 ghost use Rattle.crash.specs.Contexts.{on_thread, padded, problem_by, problem_in, registers_in, short_by};
 ghost use Rattle.crash.specs.Contexts.{register_values, short_context};
 ghost use Rattle.crash.specs.Contexts.{system_of, whole_context, whole_only};
 
 use crate::contents::Contents;
-use minidump::format::CONTEXT_ARM64_OLD;
+use minidump::format::{CONTEXT_ARM64_OLD, MINIDUMP_LOCATION_DESCRIPTOR};
 use minidump::system_info::Cpu;
 use minidump::{
     Endian, MinidumpContext, MinidumpException, MinidumpRawContext, MinidumpSystemInfo,
@@ -56,7 +56,7 @@ pub struct ShortContext {
 /// Why there are no registers in a context.
 #[derive(Clone, Copy, PartialEq, Eq)]
 pub enum ContextProblem {
-    /// Its bytes are not in the file.
+    /// Its bytes are not in the file. One of no bytes is never outside.
     Outside,
     /// The system is unknown, whose processor says how to read it.
     NoSystem,
@@ -237,6 +237,18 @@ pub(crate) fn context_at(
     any_context(contents, exception.endian(), exception.context_bytes())
 }
 
+// Returns the same on a system.
+pub(crate) fn context_with(
+    system: &MinidumpSystemInfo,
+    exception: &MinidumpException<'_>,
+) -> Option<FoundContext>
+    ensures { result ≡ any_context (Some (system_info_stream.value system.now))
+        (exception_stream.value exception.now).order (exception_stream.value exception.now).context }
+{
+    let bytes = exception.context_bytes()?;
+    context_on(system, exception.endian(), bytes)
+}
+
 // Returns the own context of a thread.
 pub(crate) fn own_context(
     contents: &Contents<'_>,
@@ -364,6 +376,20 @@ pub(crate) fn register_values(
 }
 
 // ---- why there are none
+
+// Returns the bytes of a context at a location: none if that has no size, wherever it is.
+pub(crate) fn named_bytes<'a>(
+    location: &MINIDUMP_LOCATION_DESCRIPTOR,
+    bytes: Option<&'a [u8]>,
+) -> Option<&'a [u8]>
+    ensures { option_copied result ≡ named_bytes location.now (option_copied bytes.entry) }
+{
+    if location.data_size == 0 {
+        Some(&[])
+    } else {
+        bytes
+    }
+}
 
 // Returns why there are no registers in the bytes of a context.
 pub(crate) fn problem_in(

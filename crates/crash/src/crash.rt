@@ -44,8 +44,8 @@ pub struct Crash<'a> {
     pub point: Option<CrashPoint<'a>>,
     /// Its modules.
     pub modules: CrashModules,
-    /// What is there and can't be read: streams, ascending by type, then exceptions, contexts of
-    /// exceptions, own contexts of threads, and stacks, each in the order of its list.
+    /// What is there and can't be read: streams, ascending by type, then regions of memory, exceptions,
+    /// contexts of exceptions, own contexts of threads, and stacks, each in the order of its list.
     pub damage: Vec<Damage>,
 }
 
@@ -219,6 +219,7 @@ fn damage_in(
     damage_of(
         alloc,
         directory.entries.as_slice(),
+        directory.regions_outside,
         cause.exceptions.as_slice(),
         threads.threads.as_slice(),
     )

@@ -2,7 +2,7 @@ ghost use Rattle.std.specs.Prelude.{◌≡◌, ◌-◌, IfOk, length, map, take}
 ghost use Rattle.minidump.specs.Below.Contexts.Context.{map_ok};
 ghost use Rattle.crash.specs.Cause.{exception_of};
 ghost use Rattle.crash.specs.Damage.{context_damage, damage_by, exception_damage, exception_error};
-ghost use Rattle.crash.specs.Damage.{is_outside, stack_damage, stream_damage};
+ghost use Rattle.crash.specs.Damage.{is_outside, regions_damage, stack_damage, stream_damage};
 ghost use Rattle.crash.specs.Threads.{thread_value};
 
 use crate::cause::CrashException;
@@ -23,6 +23,12 @@ pub enum Damage {
         number: u32,
         /// Why it can't be read.
         error: Error,
+    },
+    /// Regions of the plain list of memory (MemoryListStream) whose bytes are not all in the file. The
+    /// memory has none of them.
+    Regions {
+        /// How many there are.
+        count: u64,
     },
     /// The exception of an entry of the directory before the last one of its type. The error of the
     /// last one is that of the stream.
@@ -48,21 +54,23 @@ pub enum Damage {
     },
 }
 
-// Returns what can't be read: streams, exceptions, contexts of exceptions, contexts of threads and
-// stacks.
+// Returns what can't be read: streams, regions of memory, exceptions, contexts of exceptions, contexts
+// of threads and stacks.
 pub(crate) fn damage_of(
     alloc: Global,
     entries: &[StreamEntry],
+    regions: u64,
     exceptions: &[Result<CrashException, Error>],
     threads: &[CrashThread],
 ) -> Result<Vec<Damage>, AllocError>
-    ensures { IfOk result (λ damage. damage.items ≡ damage_by entries.now
+    ensures { IfOk result (λ damage. damage.items ≡ damage_by entries.now regions
         (map (map_ok exception_of) exceptions.now) (map thread_value threads.now)) }
 {
     let before = before_last(exceptions);
     entries
         .iter()
         .filter_map(|each| stream_damage(each))
+        .chain([regions].iter().filter_map(|each| regions_damage(*each)))
         .chain(before.iter().filter_map(|each| exception_error(each)))
         .chain(exceptions.iter().filter_map(|each| exception_damage(each)))
         .chain(threads.iter().filter_map(|each| context_damage(each)))
@@ -88,6 +96,17 @@ fn stream_damage(entry: &StreamEntry) -> Option<Damage>
         number: entry.number,
         error: entry.error?,
     })
+}
+
+// Returns regions that are outside the file, if there are any.
+fn regions_damage(count: u64) -> Option<Damage>
+    ensures { result ≡ regions_damage count }
+{
+    if count == 0 {
+        None
+    } else {
+        Some(Damage::Regions { count })
+    }
 }
 
 // Returns an exception that can't be read.

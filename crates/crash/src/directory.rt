@@ -11,6 +11,7 @@ ghost use Rattle.crash.specs.Directory.{entry_in, error_of_number, error_of_type
 ghost use Rattle.crash.specs.Directory.{outside_in, raw_error};
 
 use crate::contents::Contents;
+use crate::regions::regions_outside;
 use minidump::format::{MINIDUMP_DIRECTORY, MINIDUMP_STREAM_TYPE};
 use minidump::own_streams::Entries;
 use minidump::{Error, Minidump, MinidumpException, MinidumpStream, Source, Steps};
@@ -27,6 +28,9 @@ pub struct CrashDirectory {
     /// How many entries of the directory have bytes that are not all in the file: of all its
     /// entries, also those that don't decide.
     pub entries_outside: u64,
+    /// How many regions of the plain list of memory name bytes that are not all in the file. The memory
+    /// has no such region. 0 if the list can't be read.
+    pub regions_outside: u64,
 }
 
 /// A stream, by the entry of the directory that decides it.
@@ -58,6 +62,7 @@ pub(crate) fn directory_of(
         written: dump.header.time_date_stamp,
         entries: entries_of(alloc, dump, contents)?,
         entries_outside: outside_of(dump, file),
+        regions_outside: regions_outside(dump, file),
     })
 }
 

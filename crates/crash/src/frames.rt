@@ -25,7 +25,7 @@ use std::alloc::{AllocError, Global};
 pub struct CrashWalk {
     /// The frames: that of the context, and then its callers by frame pointers.
     pub frames: Vec<CrashFrame>,
-    /// Other words of the stack that may be return addresses, each of these once.
+    /// The link register, and words of the stack that may be return addresses, each of these once.
     pub candidates: Vec<CrashFrame>,
     /// Why the last of the frames has no caller.
     pub end: WalkEnd,
@@ -39,7 +39,7 @@ pub struct CrashFrame {
     /// address, which stands for Thumb code, is cleared first. `None` where nothing lies below.
     pub address: Option<u64>,
     /// The instruction pointer of the context, or else the return address by which the frame was
-    /// found.
+    /// found, on ARM64 without the bits that may sign it.
     pub instruction: u64,
     /// The stack pointer, as [`StackFrame::stack_pointer`] has it.
     pub stack_pointer: u64,
@@ -195,11 +195,13 @@ fn process_of<'l, 'a>(
     let modules = &space.modules;
     let memory = &space.memory;
     let infos = &space.infos;
+    let code_bits = contents.code_bits;
     Some(Process {
         system,
         exception,
         modules,
         memory,
         infos,
+        code_bits,
     })
 }

@@ -1,6 +1,8 @@
 //! Laws of the definitions, as functions that do nothing: a clause of each is the law.
+ghost use Rattle.std.specs.Prelude.{Bool, List};
 ghost use Rattle.minidump.specs.Dump.{Dump};
 ghost use Rattle.crash.specs.Directory.{HasErrorOfStream};
+ghost use Rattle.crash.specs.Last.{IsLastOrNone, last_index};
 
 /// The entry of type ExceptionStream has the error for which [`minidump::Minidump::get_stream`]
 /// can't read the exception of a dump, though all exceptions are read at once.
@@ -9,3 +11,11 @@ pub fn the_last_exception_has_the_error_of_the_stream()
 {
     minidump::laws::last_exception_is_the_stream();
 }
+
+/// The definition of the last item that is chosen, by which the exception that counts, the thread that
+/// crashed, and the stack and the unloaded module of an address are defined, gives the one that is
+/// chosen and after which none is, and none only where no item is chosen.
+pub fn the_last_index_is_that_of_the_last_chosen<X>()
+    ensures { (is_chosen : X → Bool) (items : List X)
+        → IsLastOrNone is_chosen items (last_index is_chosen items) }
+{}

@@ -41,7 +41,8 @@
 //!   codes, and so is each error, but for `OutOfMemory`: [`Crash::read`].
 //! - The status is that of the definition of its name: [`status_of`].
 //! - The entry of the exception has the error of its stream, though all exceptions are read at
-//!   once. This is a law of the definitions: [`laws`].
+//!   once. The last exception, thread or unloaded module that meets a test is the one after which none
+//!   does. These are laws of the definitions: [`laws`].
 //! - The calls on parts of a crash, such as [`annotation_text`], [`regions_of`] and
 //!   [`CrashThread::short_context`], have no laws. The contract of each equates its result with the
 //!   definition that it names.
@@ -69,6 +70,7 @@ mod point;
 mod process;
 mod process_texts;
 mod records;
+mod regions;
 mod release;
 mod set_flags;
 mod space;

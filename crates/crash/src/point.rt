@@ -18,7 +18,7 @@ use crate::threads::walked_at;
 use minidump::{
     MinidumpContext, MinidumpModuleList, MinidumpRawContext, UnifiedMemory, UnifiedMemoryList,
 };
-use stack_walk::{Stack, module_place};
+use stack_walk::{Stack, is_address, module_place};
 use std::alloc::{AllocError, Global};
 
 /// Where a thread stands, and what its memory has there.
@@ -193,7 +193,7 @@ fn words_from(
 }
 
 // Returns the word of a number from an address up.
-#[tactic(auto, unfolding(crate::specs::Point::word_at))]
+#[tactic(auto, using(crate::proofs::PointLemmas::no_word), unfolding(crate::specs::Point::word_at))]
 fn word_at(stack: &Stack<'_, '_>, from: u64, index: usize) -> Option<StackWord>
     ensures { result ≡ word_at (stack_of stack.now) from index }
 {
@@ -201,10 +201,13 @@ fn word_at(stack: &Stack<'_, '_>, from: u64, index: usize) -> Option<StackWord>
     word_in(stack, from.checked_add((index as u64).checked_mul(size)?)?)
 }
 
-// Returns the word that a stack holds at an address.
+// Returns the word that a stack holds at a number, if that is an address.
 fn word_in(stack: &Stack<'_, '_>, address: u64) -> Option<StackWord>
     ensures { result ≡ word_in (stack_of stack.now) address }
 {
+    if !is_address(stack.width, address) {
+        return None;
+    }
     let value = stack.word_at(address)?;
     Some(word_by(stack.modules, address, value))
 }

@@ -3,9 +3,12 @@ ghost use Rattle.std.specs.Prelude.{◌≡◌, ◌%◌, ◌/◌, ◌^◌, IfOk, 
 ghost use Rattle.std.specs.Option.{option_copied, option_map, option_map_or};
 ghost use Rattle.minidump.specs.Promise.{system_info_stream};
 ghost use Rattle.crash.specs.Records.{access_in, access_of_number, access_on, description_in};
-ghost use Rattle.crash.specs.Records.{has_both_ids, is_process, parameter_bytes, text_unless_empty};
-ghost use Rattle.crash.specs.Records.{has_no_fault_address, has_no_protection_address};
-ghost use Rattle.crash.specs.Records.{is_fault, is_low_access, is_sent, is_signal, lacks_address};
+ghost use Rattle.crash.specs.Records.{has_access, has_both_ids, has_lldb_flag};
+ghost use Rattle.crash.specs.Records.{has_no_access_address, says_no_cause, has_no_fault_address};
+ghost use Rattle.crash.specs.Records.{has_no_protection_address, is_access, is_fault, is_low_access};
+ghost use Rattle.crash.specs.Records.{is_process, is_protection, is_protection_address, is_sent};
+ghost use Rattle.crash.specs.Records.{is_signal, is_without_address, lacks_address, may_be_instruction};
+ghost use Rattle.crash.specs.Records.{parameter_bytes, text_unless_empty};
 ghost use Rattle.crash.specs.Records.{parameters_in, sender_at, sender_by, sender_if_sent, sender_in};
 ghost use Rattle.crash.specs.Records.{sender_on, sender_with, signal_code, signal_code_name};
 
@@ -44,6 +47,12 @@ const SI_QUEUE: u32 = 0xffff_ffff;
 const SI_TKILL: u32 = 0xffff_fffa;
 
 const SI_KERNEL: u32 = 0x80;
+
+const SEGV_MTEAERR: u32 = 8;
+
+const SEGV_CPERR: u32 = 10;
+
+const BUS_ADRALN: u32 = 1;
 
 const EXC_BAD_ACCESS: u32 = 1;
 
@@ -115,11 +124,18 @@ pub(crate) fn description_of(
 ) -> Result<Option<String>, AllocError>
     ensures { IfOk result (λ text. option_map string_bytes text ≡ description_in raw.now) }
 {
-    if raw.exception_flags != LLDB_FLAG {
+    if !has_lldb_flag(raw) {
         return Ok(None);
     }
     let bytes = parameter_bytes(alloc, raw)?;
     text_unless_empty(alloc, before_nul(bytes.as_slice()))
+}
+
+// Tells whether the flags of a record are those of LLDB.
+fn has_lldb_flag(raw: &MINIDUMP_EXCEPTION) -> bool
+    ensures { result ≡ has_lldb_flag raw.now }
+{
+    raw.exception_flags == LLDB_FLAG
 }
 
 // Returns the bytes of all parameters of a record, each from its lowest byte on.
@@ -151,20 +167,60 @@ pub(crate) fn access_of(
     ensures { result ≡ access_in
         (option_map system_info_stream.value (option_copied system.entry)) raw.now }
 {
-    access_on(system?.os, raw)
+    let system = system?;
+    access_on(system.os, system.cpu, raw)
 }
 
-// Returns the same on an operating system.
-fn access_on(os: Os, raw: &MINIDUMP_EXCEPTION) -> Option<Access>
-    ensures { result ≡ access_on os raw.now }
+// Returns the same on an operating system and a processor.
+fn access_on(os: Os, cpu: Cpu, raw: &MINIDUMP_EXCEPTION) -> Option<Access>
+    ensures { result ≡ access_on os cpu raw.now }
 {
-    let has_access = raw.exception_code == EXCEPTION_ACCESS_VIOLATION
-        || raw.exception_code == EXCEPTION_IN_PAGE_ERROR;
     match os {
-        Os::Windows if has_access && raw.number_parameters >= 1 => {
-            access_of_number(raw.exception_information[0])
-        }
+        Os::Windows if has_access(cpu, raw) => access_of_number(raw.exception_information[0]),
         _ => None,
+    }
+}
+
+// Tells whether the first parameter of a record of Windows says how memory was accessed.
+fn has_access(cpu: Cpu, raw: &MINIDUMP_EXCEPTION) -> bool
+    ensures { result ≡ has_access cpu raw.now }
+{
+    is_access(Os::Windows, raw.exception_code)
+        && raw.number_parameters >= 1
+        && !has_lldb_flag(raw)
+        && !is_protection(cpu, raw)
+}
+
+// Tells whether an exception of an operating system is an access to memory, by its code.
+fn is_access(os: Os, code: u32) -> bool
+    ensures { result ≡ is_access os code }
+{
+    match os {
+        Os::Linux | Os::Android => code == SIGBUS || code == SIGSEGV,
+        Os::MacOs | Os::Ios => code == EXC_BAD_ACCESS,
+        Os::Windows => code == EXCEPTION_ACCESS_VIOLATION || code == EXCEPTION_IN_PAGE_ERROR,
+        _ => false,
+    }
+}
+
+// Tells whether a record of Windows is that of a general protection.
+fn is_protection(cpu: Cpu, raw: &MINIDUMP_EXCEPTION) -> bool
+    ensures { result ≡ is_protection cpu raw.now }
+{
+    raw.exception_code == EXCEPTION_ACCESS_VIOLATION
+        && raw.number_parameters >= 2
+        && raw.exception_information[0] == 0
+        && is_protection_address(cpu, raw.exception_information[1])
+}
+
+// Tells whether an address is the one that Windows gives for a general protection.
+fn is_protection_address(cpu: Cpu, address: u64) -> bool
+    ensures { result ≡ is_protection_address cpu address }
+{
+    match cpu {
+        Cpu::X86 => address % 0x1_0000_0000 == 0xffff_ffff,
+        Cpu::X86_64 => address == 0xffff_ffff_ffff_ffff,
+        _ => false,
     }
 }
 
@@ -181,13 +237,39 @@ fn access_of_number(number: u64) -> Option<Access>
 }
 
 // Tells whether the record of an exception has no address of a crash.
-pub(crate) fn lacks_address(os: Os, raw: &MINIDUMP_EXCEPTION) -> bool
-    ensures { result ≡ lacks_address os raw.now }
+pub(crate) fn lacks_address(os: Os, cpu: Cpu, raw: &MINIDUMP_EXCEPTION) -> bool
+    ensures { result ≡ lacks_address os cpu raw.now }
 {
     match os {
         Os::Linux | Os::Android => has_no_fault_address(raw),
         Os::MacOs => has_no_protection_address(raw),
+        Os::Windows => has_no_access_address(cpu, raw),
         _ => false,
+    }
+}
+
+// Tells whether the address of an access of Windows is LLDB's text or that of a general protection.
+fn has_no_access_address(cpu: Cpu, raw: &MINIDUMP_EXCEPTION) -> bool
+    ensures { result ≡ has_no_access_address cpu raw.now }
+{
+    let has_address = is_access(Os::Windows, raw.exception_code) && raw.number_parameters >= 2;
+    has_lldb_flag(raw) && has_address || is_protection(cpu, raw)
+}
+
+// Tells whether the address of an access may be that of the instruction.
+pub(crate) fn may_be_instruction(os: Os, raw: &MINIDUMP_EXCEPTION) -> bool
+    ensures { result ≡ may_be_instruction os raw.now }
+{
+    is_access(os, raw.exception_code) && says_no_cause(os, raw)
+}
+
+// Tells whether the flags of an access don't say why it failed.
+fn says_no_cause(os: Os, raw: &MINIDUMP_EXCEPTION) -> bool
+    ensures { result ≡ says_no_cause os raw.now }
+{
+    match os {
+        Os::Windows => has_lldb_flag(raw),
+        _ => raw.exception_flags == 0 || has_lldb_flag(raw),
     }
 }
 
@@ -205,7 +287,17 @@ fn has_no_fault_address(raw: &MINIDUMP_EXCEPTION) -> bool
     ensures { result ≡ has_no_fault_address raw.now }
 {
     raw.exception_address == 0
-        && (!is_fault(raw.exception_code) || raw.exception_flags == SI_KERNEL)
+        && (!is_fault(raw.exception_code)
+            || is_without_address(raw.exception_code, raw.exception_flags))
+}
+
+// Tells whether a fault has no `si_addr`, by its `si_code`.
+fn is_without_address(signal: u32, code: u32) -> bool
+    ensures { result ≡ is_without_address signal code }
+{
+    code == SI_KERNEL
+        || signal == SIGSEGV && (code == SEGV_MTEAERR || code == SEGV_CPERR)
+        || signal == SIGBUS && code == BUS_ADRALN
 }
 
 // Tells whether a signal is that of a fault.

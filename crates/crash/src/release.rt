@@ -5,6 +5,7 @@ ghost use Rattle.minidump.specs.Below.Bytes.LinuxOsStr.{text_of};
 ghost use Rattle.minidump.specs.Below.Contexts.Context.{map_ok};
 ghost use Rattle.minidump.specs.Promise.{linux_lsb_release_stream};
 ghost use Rattle.crash.specs.Release.{first_value, release_by, release_in, release_of, text_value};
+ghost use Rattle.crash.specs.Release.{without_single_quotes};
 
 use minidump::strings::LinuxOsStr;
 use minidump::{Error, MinidumpLinuxLsbRelease};
@@ -12,7 +13,8 @@ use std::alloc::{AllocError, Global};
 
 /// The release of a Linux system, as the copy of its `/etc/lsb-release` has it, or of its
 /// `/etc/os-release`, whose keys are others. Each is the value of the first line that has one of
-/// its two keys, with U+FFFD for what isn't UTF-8, and `None` if no line has one.
+/// its two keys, without quotes around it, with U+FFFD for what isn't UTF-8, and `None` if no line has
+/// one.
 #[derive(Drop)]
 pub struct LsbRelease {
     /// The distribution: `DISTRIB_ID` or `ID`.
@@ -52,7 +54,7 @@ fn release_by(alloc: Global, stream: &MinidumpLinuxLsbRelease<'_>) -> Result<Lsb
     })
 }
 
-// Copies the value of the first pair that has one of two keys.
+// Copies the value of the first pair that has one of two keys, without single quotes.
 fn text_value(
     alloc: Global,
     stream: &MinidumpLinuxLsbRelease<'_>,
@@ -63,8 +65,22 @@ fn text_value(
         ≡ text_value (linux_lsb_release_stream.value stream.now) key.now other.now) }
 {
     match first_value(stream, key, other) {
-        Some(value) => Ok(Some(value.to_string_lossy(alloc)?)),
+        Some(value) => Ok(Some(without_single_quotes(value).to_string_lossy(alloc)?)),
         None => Ok(None),
+    }
+}
+
+// Returns a value without the single quotes at its ends, or as it is if one of them is missing.
+#[tactic(auto, unfolding(crate::specs::Release::without_single_quotes))]
+fn without_single_quotes(value: LinuxOsStr<'_>) -> LinuxOsStr<'_>
+    ensures { text_of result ≡ without_single_quotes (text_of value.entry) }
+{
+    let bytes = value.as_bytes();
+    let end = bytes.len();
+    if end >= 2 && bytes[0] == b'\'' && bytes[end - 1] == b'\'' {
+        LinuxOsStr::from_bytes(&bytes[1..end - 1])
+    } else {
+        value
     }
 }
 

@@ -9,14 +9,13 @@ ghost use Rattle.crash.specs.Threads.{all_threads, crashed_thread, crashing_at, 
 ghost use Rattle.crash.specs.Threads.{extra_threads};
 ghost use Rattle.crash.specs.Threads.{has_thread, listed_in, short_context, thread_value};
 ghost use Rattle.crash.specs.Threads.{extra_walked, threads_by, threads_in, threads_of, walked_at};
-ghost use Rattle.crash.specs.Threads.{walked_of_entry};
 ghost use Rattle.crash.specs.Frames.{walked_of};
 ghost use Rattle.crash.specs.Last.{last_index};
 
 use crate::contents::Contents;
 use crate::contexts::{
     ContextOrigin, ContextProblem, CrashContext, ShortContext, context_at, found_context,
-    of_origin, problem_in, registers_of,
+    named_bytes, of_origin, problem_in, registers_of,
 };
 use crate::counting::counting_exception;
 use crate::each::{MakeItem, make_items};
@@ -270,12 +269,13 @@ impl<'a> MakeItem<MinidumpThread<'a>> for EachThread<'_, 'a, '_> {
     fn make_item(&self, alloc: Global, item: &MinidumpThread<'a>) -> Result<CrashThread, Error> {
         let (contents, exception) = (self.contents, self.exception);
         let id = item.raw.thread_id;
+        let bytes = named_bytes(&item.raw.thread_context, item.context_bytes());
         Ok(CrashThread {
             id,
             is_listed: true,
             name: copy(alloc, name_of(&contents.threads.names, id))?,
             context: registers_of(alloc, found_context(contents, exception, item))?,
-            context_problem: problem_in(contents, item.endian(), item.context_bytes()),
+            context_problem: problem_in(contents, item.endian(), bytes),
             stack: named_stack(&item.raw.stack),
             stack_memory: stack_memory(contents, item),
             is_stack_outside: is_outside(item),
@@ -296,25 +296,9 @@ pub(crate) fn walked_at<'l, 'a>(
 {
     let exception = counting_exception(contents);
     let threads = entries_of(&contents.threads.threads);
-    let entry = threads.get(index);
-    walked_of_entry(contents, exception, entry, index == threads.len())
-}
-
-// Returns the stack and the context by which an entry of the list is walked, or, if there is none,
-// those of the thread after them.
-fn walked_of_entry<'l, 'a>(
-    contents: &'l Contents<'a>,
-    exception: Option<&'l MinidumpException<'a>>,
-    entry: Option<&'l MinidumpThread<'a>>,
-    is_next: bool,
-) -> Option<(Stack<'l, 'a>, MinidumpContext)>
-    ensures { option_map walked_of result ≡ walked_of_entry (contents_of contents.now)
-        (option_map exception_stream.value (option_copied exception.entry))
-        (option_map thread_of (option_copied entry.entry)) is_next }
-{
-    match entry {
+    match threads.get(index) {
         Some(thread) => walked_thread(contents, exception, thread),
-        None if is_next => extra_walked(contents, exception),
+        None if index == threads.len() => extra_walked(contents, exception),
         None => None,
     }
 }

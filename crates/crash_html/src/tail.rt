@@ -218,6 +218,7 @@ function damageWords(damage) {
   const error = part(damage, "error");
   switch (part(damage, "what")) {
     case "stream": return joined([streamName(part(damage, "number")), error], ": ");
+    case "regions": return "regions of the plain list of memory, outside the file: " + counted(part(damage, "count"));
     case "exception": return joined(["an exception before the last", error], ": ");
     case "exception_context": return joined(["the context of the exception on thread " + thread + ", outside the file", error], ": ");
     case "thread_context": return joined(["the context of thread " + thread + ", outside the file", error], ": ");
@@ -421,7 +422,7 @@ function functionWords(frame) {
   return joined([name, part(frame, "function_offset")], " + ");
 }
 
-const TRUST = { cfi: "call frame information", frame_pointer: "frame pointer" };
+const TRUST = { cfi: "call frame information", frame_pointer: "frame pointer", link_register: "link register" };
 
 // Returns the rows of a frame: the inlined calls there, innermost first, and the frame itself.
 function rowsOfFrame(frame) {

@@ -6,6 +6,7 @@ use Rattle.std.specs.Str.Lossy.{utf8_lossy}
 use Rattle.json.specs.Json.{Json, boolean, string}
 use Rattle.stack_walk.specs.declared.frame.FrameTrust.{FrameTrust}
 use Rattle.stack_walk.specs.declared.frame.FrameTrust.TheVariants.{Context, Cfi, FramePointer, Scan}
+use Rattle.stack_walk.specs.declared.frame.FrameTrust.TheVariants.{Link}
 use Rattle.crash.specs.declared.frames.CrashFrame.{CrashFrame}
 use Rattle.crash.specs.Contexts.{ContextValue}
 use Rattle.crash.specs.Modules.{LoadedValue}
@@ -20,6 +21,7 @@ trust_name Context = codes "context"
 trust_name Cfi = codes "cfi"
 trust_name FramePointer = codes "frame_pointer"
 trust_name Scan = codes "scan"
+trust_name Link = codes "link_register"
 
 -- registers as members, each by its name
 abbrev pub register_members : List (List ℕ × ℕ) → List (List ℕ × Json)

@@ -8,7 +8,8 @@ use Rattle.minidump.specs.Below.Format.Error.{name_of_error}
 use Rattle.minidump.specs.Below.Format.StreamType.{stream_type_of, type_name}
 use Rattle.minidump.specs.Below.MemoryLists.Unified.{UnifiedRegion, unified_regions}
 use Rattle.crash.specs.declared.damage.Damage.{Damage}
-use Rattle.crash.specs.declared.damage.Damage.TheVariants.{Exception, ExceptionContext, Stack, Stream, ThreadContext}
+use Rattle.crash.specs.declared.damage.Damage.TheVariants.{Exception, ExceptionContext, Regions, Stack, Stream}
+use Rattle.crash.specs.declared.damage.Damage.TheVariants.{ThreadContext}
 use Rattle.crash.specs.declared.directory.StreamEntry.{StreamEntry}
 use Rattle.crash.specs.Crash.{CrashValue, status_of}
 use Rattle.crash_json.specs.Tree.{array_of, count, hex_string, object_of, or_null}
@@ -43,12 +44,13 @@ region_json r = object_of (
 
 -- ---- damage
 
--- damage by the word for what it is of, the type of a stream, the id of a thread, and the name of an
--- error
-unfoldable pub damage_object : List ℕ → Option ℕ → Option ℕ → Option (List ℕ) → Json
-damage_object what number thread error = object_of (
+-- damage by the word for what it is of, the type of a stream, the number of regions, the id of a thread,
+-- and the name of an error
+unfoldable pub damage_object : List ℕ → Option ℕ → Option ℕ → Option ℕ → Option (List ℕ) → Json
+damage_object what number regions thread error = object_of (
     (codes "what", string what)
     ∷ (codes "number", or_null hex_string number)
+    ∷ (codes "count", or_null count regions)
     ∷ (codes "thread_id", or_null count thread)
     ∷ (codes "error", or_null string error)
     ∷ [])
@@ -56,13 +58,14 @@ damage_object what number thread error = object_of (
 -- something that is there and can't be read
 abbrev pub damage_json : Damage → Json
 damage_json (Stream number error) =
-    damage_object (codes "stream") (Some number) None (Some (name_of_error error))
+    damage_object (codes "stream") (Some number) None None (Some (name_of_error error))
+damage_json (Regions regions) = damage_object (codes "regions") None (Some regions) None None
 damage_json (Exception error) =
-    damage_object (codes "exception") None None (Some (name_of_error error))
+    damage_object (codes "exception") None None None (Some (name_of_error error))
 damage_json (ExceptionContext id) =
-    damage_object (codes "exception_context") None (Some id) None
-damage_json (ThreadContext id) = damage_object (codes "thread_context") None (Some id) None
-damage_json (Stack id) = damage_object (codes "stack") None (Some id) None
+    damage_object (codes "exception_context") None None (Some id) None
+damage_json (ThreadContext id) = damage_object (codes "thread_context") None None (Some id) None
+damage_json (Stack id) = damage_object (codes "stack") None None (Some id) None
 
 -- ---- all of it
 

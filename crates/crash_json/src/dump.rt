@@ -241,18 +241,31 @@ impl ToJson for Damage {
     fn put(&self, out: &mut Writer, alloc: Global) -> Put {
         match *self {
             Damage::Stream { number, error } => {
-                put_damage(out, alloc, "stream", Some(number), None, Some(error))
+                put_damage(out, alloc, "stream", Some(number), None, None, Some(error))
+            }
+            Damage::Regions { count } => {
+                put_damage(out, alloc, "regions", None, Some(count), None, None)
             }
             Damage::Exception { error } => {
-                put_damage(out, alloc, "exception", None, None, Some(error))
+                put_damage(out, alloc, "exception", None, None, None, Some(error))
             }
             Damage::ExceptionContext { thread } => {
-                put_damage(out, alloc, "exception_context", None, Some(thread), None)
+                put_damage(
+                    out,
+                    alloc,
+                    "exception_context",
+                    None,
+                    None,
+                    Some(thread),
+                    None,
+                )
             }
             Damage::ThreadContext { thread } => {
-                put_damage(out, alloc, "thread_context", None, Some(thread), None)
+                put_damage(out, alloc, "thread_context", None, None, Some(thread), None)
             }
-            Damage::Stack { thread } => put_damage(out, alloc, "stack", None, Some(thread), None),
+            Damage::Stack { thread } => {
+                put_damage(out, alloc, "stack", None, None, Some(thread), None)
+            }
         }
     }
 }
@@ -263,15 +276,17 @@ fn put_damage(
     alloc: Global,
     what: &str,
     number: Option<u32>,
+    regions: Option<u64>,
     thread: Option<u32>,
     error: Option<Error>,
 ) -> Put
     ensures { Puts result out.old out.new
-        (damage_object what.now number thread (option_map name_of_error error)) }
+        (damage_object what.now number regions thread (option_map name_of_error error)) }
 {
     Members(&[
         ("what", Scalar::Text(Some(what))),
         ("number", Scalar::Hex(widened(number))),
+        ("count", Scalar::Number(regions)),
         ("thread_id", Scalar::Number(widened(thread))),
         ("error", Scalar::Text(error_name(error))),
     ])

@@ -88,6 +88,7 @@ fn trust_name(trust: FrameTrust) -> &'static str
         FrameTrust::Cfi => "cfi",
         FrameTrust::FramePointer => "frame_pointer",
         FrameTrust::Scan => "scan",
+        FrameTrust::Link => "link_register",
     }
 }
 

@@ -10,6 +10,7 @@ use Rattle.stack_walk.specs.declared.end.WalkEnd.TheVariants.{NoFramePointer, No
 use Rattle.stack_walk.specs.declared.end.WalkEnd.TheVariants.{UnknownWidth, ZeroFramePointer}
 use Rattle.stack_walk.specs.declared.frame.FrameTrust.{FrameTrust}
 use Rattle.stack_walk.specs.declared.frame.FrameTrust.TheVariants.{Context, Cfi, FramePointer, Scan}
+use Rattle.stack_walk.specs.declared.frame.FrameTrust.TheVariants.{Link}
 use Rattle.minidump_bytes.specs.LinuxOsStr.{text_of}
 use Rattle.minidump.specs.Below.Bytes.Piece.{hex}
 use Rattle.symbol_walk.specs.declared.walk.SymbolWalkEnd.{SymbolWalkEnd}
@@ -84,6 +85,7 @@ found_text false Context = codes ", context"
 found_text false Cfi = codes ", call frame information"
 found_text false FramePointer = codes ", frame pointer"
 found_text false Scan = codes ", scan"
+found_text false Link = codes ", link register"
 
 -- the words for an offset in a function
 abbrev pub offset_text : Option ℕ → List ℕ

@@ -158,5 +158,6 @@ pub(crate) fn found_text(is_inline: bool, trust: FrameTrust) -> &'static str
         (false, FrameTrust::Cfi) => ", call frame information",
         (false, FrameTrust::FramePointer) => ", frame pointer",
         (false, FrameTrust::Scan) => ", scan",
+        (false, FrameTrust::Link) => ", link register",
     }
 }

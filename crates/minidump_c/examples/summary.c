@@ -46,7 +46,7 @@ static void print_place(const struct minidump_module *module, uint64_t offset) {
 
 static void print_crash(const struct minidump_crash *crash, const struct minidump_frame *frames,
                         const struct minidump_module *modules) {
-    static const char *const known_by[] = {"", "context", "frame pointer", "scan", "cfi"};
+    static const char *const known_by[] = {"", "context", "frame pointer", "scan", "cfi", "link register"};
     const struct minidump_facts *facts = &crash->facts;
     if (crash->has_thread) printf("thread  %u\n", (unsigned)crash->thread);
     if (facts->has_address) printf("address 0x%llx", (unsigned long long)facts->address);

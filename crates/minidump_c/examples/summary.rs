@@ -217,7 +217,7 @@ impl Summary {
         }
         for (number, frame) in self.frames.iter().enumerate() {
             let place = self.place(frame.has_module as u8, frame.module, frame.module_offset);
-            println!("#{number:<2}     {:#x}{place}, {}", frame.address, ["", "context", "frame pointer", "scan", "cfi"][frame.trust as usize]);
+            println!("#{number:<2}     {:#x}{place}, {}", frame.address, ["", "context", "frame pointer", "scan", "cfi", "link register"][frame.trust as usize]);
         }
         if crash.damage_count != 0 {
             println!("something of the dump can't be read");

@@ -170,7 +170,8 @@ enum minidump_trust {
     MINIDUMP_TRUST_CONTEXT = 1,       /* the registers of the thread */
     MINIDUMP_TRUST_FRAME_POINTER = 2, /* the frame pointer of the frame before */
     MINIDUMP_TRUST_SCAN = 3,          /* a word of the stack that may be a return address: a candidate */
-    MINIDUMP_TRUST_CFI = 4            /* call frame information of symbols, which no call of this library reads */
+    MINIDUMP_TRUST_CFI = 4,           /* call frame information of symbols, which no call of this library reads */
+    MINIDUMP_TRUST_LINK = 5           /* the link register of ARM or ARM64: a candidate */
 };
 
 /* Why the last frame has no caller. */
@@ -180,7 +181,8 @@ enum minidump_end {
     MINIDUMP_END_NO_FRAME_POINTER = 3,    /* the frame pointer isn't known */
     MINIDUMP_END_ZERO_FRAME_POINTER = 4,  /* it is 0, as a thread's first function finds it */
     MINIDUMP_END_BELOW_STACK_POINTER = 5, /* it lies below the stack pointer */
-    MINIDUMP_END_NO_RECORD = 6,           /* the stack doesn't hold both words at it, or they end at 2^64 or beyond */
+    MINIDUMP_END_NO_RECORD = 6,           /* the stack doesn't hold both words at it, or they end at 2^64 or beyond, on 32 bits
+                                           * at 2^32 or beyond */
     MINIDUMP_END_NO_CODE = 7              /* the return address is 0, or no module contains the address below it */
 };
 
@@ -202,7 +204,8 @@ struct minidump_exception {
     uint32_t parameter_count; /* how many parameters its record has, at most 15 */
     uint32_t sender;          /* the id of the process that sent the signal, on Linux and Android */
     uint32_t sender_user;     /* the id of the user of that process */
-    uint16_t access;          /* enum minidump_access; 0 but for access violations and in-page errors of Windows */
+    uint16_t access;          /* enum minidump_access, of access violations and in-page errors of Windows; 0 for others, for a
+                               * general protection, and where LLDB's text stands */
     uint16_t context_problem; /* enum minidump_problem: why its context gives no registers; 0 if it gives some */
     uint8_t has_exception;
     uint8_t is_sent; /* a process sent the signal; has_sender tells whether its id is known */
@@ -221,8 +224,10 @@ struct minidump_facts {
     size_t below_stack;     /* the index of the last thread whose stack begins above it, by at most 4,096 bytes */
     uint32_t memory_state;  /* enum minidump_state, of the memory that contains it */
     uint8_t has_address;    /* 0 where no exception counts, without a system, for a signal that a process sent, on Linux and
-                             * Android for one at 0 that is no fault, or the kernel's own without an address, and on macOS
-                             * for a general protection at 0 */
+                             * Android for one at 0 that is no fault, or the kernel's own without an address, on macOS for
+                             * a general protection at 0, on Windows for one of x86 or x86-64 and where LLDB's text stands
+                             * over the address, and for an access at its own instruction pointer, in code, whose flags are
+                             * LLDB's or, but on Windows, 0 */
     uint8_t has_null_offset;
     uint8_t is_canonical; /* 0 for an address of x86-64 whose bits 47 to 63 differ, and where has_address is 0; else 1 */
     uint8_t has_module;
@@ -242,8 +247,8 @@ struct minidump_crash {
     struct minidump_facts facts;         /* of the address that the crash is about */
     uint64_t uptime;     /* for how many seconds the process had run when the dump was written */
     size_t thread_index; /* of the thread that crashed, in the table of threads */
-    size_t damage_count; /* how many streams, exceptions, contexts and stacks are there and can't be read;
-                          * minidump_crash_json names them */
+    size_t damage_count; /* how many streams, exceptions, contexts and stacks are there and can't be read, and
+                          * one more if regions of memory are outside the file; minidump_crash_json names them */
     size_t register_size; /* how many bytes a register has */
     size_t frame_count;   /* the sizes of the whole tables, and of all texts */
     size_t register_count;
@@ -274,8 +279,10 @@ struct minidump_frame {
     uint64_t address;           /* by which it is looked up: for a return address the one below it, within the call;
                                  * on ARM of 32 bits bit 0 of the return address is cleared first; the return
                                  * address itself where no address lies below it */
-    uint64_t instruction;       /* of the context, or else the return address of the frame before */
-    uint64_t stack_pointer;     /* where no context has it, the address after the return address */
+    uint64_t instruction;       /* of the context, or else the return address of the frame before, on ARM64 without its
+                                 * signature */
+    uint64_t stack_pointer;     /* where no context has it, the address after the return address; of the link register
+                                 * that of the context */
     uint64_t frame_pointer;     /* 0 if it isn't known */
     size_t module;              /* the index of the module that contains the address, 0 if there is none */
     uint64_t module_offset;     /* of the address in it */

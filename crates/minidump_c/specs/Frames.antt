@@ -9,6 +9,7 @@ use Rattle.stack_walk.specs.declared.end.WalkEnd.TheVariants.{NoFramePointer, Ze
 use Rattle.stack_walk.specs.declared.end.WalkEnd.TheVariants.{BelowStackPointer, NoRecord, NoCode}
 use Rattle.stack_walk.specs.declared.frame.FrameTrust.{FrameTrust}
 use Rattle.stack_walk.specs.declared.frame.FrameTrust.TheVariants.{Context, Cfi, FramePointer, Scan}
+use Rattle.stack_walk.specs.declared.frame.FrameTrust.TheVariants.{Link}
 use Rattle.minidump_c.specs.declared.frames.FrameRow.{FrameRow}
 use Rattle.minidump_c.specs.Spans.{flag}
 
@@ -18,6 +19,7 @@ trust_number Context = 1
 trust_number FramePointer = 2
 trust_number Scan = 3
 trust_number Cfi = 4
+trust_number Link = 5
 
 -- the numbers of why the last frame has no caller
 abbrev pub end_number : WalkEnd → ℕ

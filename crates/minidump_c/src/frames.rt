@@ -19,7 +19,8 @@ pub struct FrameRow {
     pub address: u64,
     /// The instruction pointer of the context, or else the return address of the frame before.
     pub instruction: u64,
-    /// The stack pointer: of a caller or a candidate, the address after its return address.
+    /// The stack pointer: of a caller or a candidate, the address after its return address, and of the
+    /// link register's candidate that of the context.
     pub stack_pointer: u64,
     /// The frame pointer.
     pub frame_pointer: u64,
@@ -90,6 +91,7 @@ fn trust_number(trust: FrameTrust) -> u32
         FrameTrust::FramePointer => 2,
         FrameTrust::Scan => 3,
         FrameTrust::Cfi => 4,
+        FrameTrust::Link => 5,
     }
 }
 

@@ -1,8 +1,8 @@
 -- A caller stands on the stack: its frame's record lies in the region, at or above the stack
 -- pointer, and its own stack pointer after it.
-use Rattle.std.proofs.Common.{◌≡◌, ◌∙◌, ℕ, ◌+◌, ◌-◌, ◌*◌, ◌<◌, ◌≤◌, ◌^◌, length, Bool, true, false, Option, Some, None, refl, ap, sym, arith}
+use Rattle.std.proofs.Common.{◌≡◌, ◌∙◌, ℕ, ◌+◌, ◌-◌, ◌*◌, ◌≤◌, length, Bool, true, false, Option, Some, None, refl, ap, sym, arith}
 use Rattle.std.specs.Prelude.{nat_lt, nat_le, slice_range, if◌then◌else◌}
-use Rattle.std.specs.Option.{option_and_then, option_map_or}
+use Rattle.std.specs.Option.{option_and_then, option_map, option_map_or}
 use Rattle.std.proofs.lemmas.Bool.Decides.{nat_tests}
 use Rattle.minidump.specs.declared.system_info.PointerWidth.{PointerWidth}
 use Rattle.minidump.specs.declared.system_info.PointerWidth.TheVariants.{Bits32, Bits64, Unknown}
@@ -13,13 +13,20 @@ use Rattle.minidump.specs.Below.MemoryLists.Unified.{UnifiedRegion}
 use Rattle.minidump.specs.Below.System.Cpu.{pointer_bytes}
 use Rattle.stack_walk.specs.declared.frame.FrameTrust.TheVariants.{FramePointer}
 use Rattle.stack_walk.specs.declared.frame.StackFrame.{StackFrame}
-use Rattle.stack_walk.specs.Frames.{StackValue, caller_at, caller_by, caller_of, pointer_at, pointer_in, stack_bytes}
+use Rattle.stack_walk.specs.Addresses.{address_after, unsigned}
+use Rattle.stack_walk.specs.Frames.{StackValue, caller_at, caller_by, caller_of, pointer_at, pointer_in, return_at, stack_bytes}
 use Rattle.stack_walk.specs.Lookups.{call_site, is_code}
+use Rattle.stack_walk.proofs.AddressLemmas.{sum_after}
 
 -- what a step that succeeds is made of
 pub step : {A B : Type 0} (f : A → Option B) (o : Option A) (y : B) → option_and_then f o ≡ Some y → (x : A) × (o ≡ Some x) × (f x ≡ Some y)
 step f None y e = cc
 step f (Some x) y e = (x, refl, e)
+
+-- what is mapped
+pub mapped : {A B : Type 0} (f : A → B) (o : Option A) (y : B) → option_map f o ≡ Some y → (x : A) × (o ≡ Some x) × (y ≡ f x)
+mapped f None y e = cc
+mapped f (Some x) y e = (x, refl, (let same : Some (f x) ≡ Some y = e in cc))
 
 -- a test that was passed
 pub passed : {A : Type 0} (b : Bool) (o : Option A) (y : A) → (if b then o else None) ≡ Some y → (b ≡ true) × (o ≡ Some y)
@@ -78,21 +85,23 @@ pub record Record (s : StackValue) (f g : StackFrame) : Type 0 where
   pub size : ℕ
   pub address : ℕ
   pub saved : ℕ
+  pub word : ℕ
   pub is_size : pointer_bytes s.width ≡ Some size
   pub points : f.frame_pointer ≡ Some address
   pub above : f.stack_pointer ≤ address
-  pub low : address + 2 * size < 2 ^ 64
   pub first : pointer_at s address ≡ Some saved
-  pub second : pointer_at s (address + size) ≡ Some g.instruction
+  pub second : pointer_at s (address + size) ≡ Some word
+  pub is_return : g.instruction ≡ unsigned s.code_bits word
   pub after : g.stack_pointer ≡ address + 2 * size
   pub trust : g.trust ≡ FramePointer
 
 -- the record at an address
 record At (s : StackValue) (size address : ℕ) (g : StackFrame) : Type 0 where
   saved : ℕ
-  low : address + 2 * size < 2 ^ 64
+  word : ℕ
   first : pointer_at s address ≡ Some saved
-  second : pointer_at s (address + size) ≡ Some g.instruction
+  second : pointer_at s (address + size) ≡ Some word
+  is_return : g.instruction ≡ unsigned s.code_bits word
   after : g.stack_pointer ≡ address + 2 * size
   trust : g.trust ≡ FramePointer
 
@@ -117,21 +126,21 @@ by_call s after saved address g e =
 at : (s : StackValue) (size address : ℕ) (g : StackFrame) → caller_at s size address ≡ Some g → At s size address g
 unfolding caller_at
 at s size address g e =
-    let low =
-    passed (nat_lt (address + 2 * size) (2 ^ 64))
-    (option_and_then (λ saved. option_and_then (caller_by s (address + 2 * size) saved) (pointer_at s (address + size))) (pointer_at s address)) g e
+    let after =
+    step (λ after. option_and_then (λ saved. option_and_then (caller_by s after saved) (return_at s (address + size))) (pointer_at s address))
+    (address_after s.width address (2 * size)) g e
     in
-    let first =
-    step (λ saved. option_and_then (caller_by s (address + 2 * size) saved) (pointer_at s (address + size))) (pointer_at s address) g low.1
-    in
-    let second = step (caller_by s (address + 2 * size) first.0) (pointer_at s (address + size)) g first.2 in
-    let is = by_call s (address + 2 * size) first.0 second.0 g second.2 in
+    let first = step (λ saved. option_and_then (caller_by s after.0 saved) (return_at s (address + size))) (pointer_at s address) g after.2 in
+    let second = step (caller_by s after.0 first.0) (return_at s (address + size)) g first.2 in
+    let word = mapped (unsigned s.code_bits) (pointer_at s (address + size)) second.0 second.1 in
+    let is = by_call s after.0 first.0 second.0 g second.2 in
     record {
       saved = first.0;
-      low = grind (arith, nat_tests, low.0);
+      word = word.0;
       first = first.1;
-      second = second.1 ∙ ap (λ (f : StackFrame). Some f.instruction) is;
-      after = sym (ap (λ (f : StackFrame). f.stack_pointer) is);
+      second = word.1;
+      is_return = sym (ap (λ (f : StackFrame). f.instruction) is) ∙ word.2;
+      after = sym (ap (λ (f : StackFrame). f.stack_pointer) is) ∙ sum_after s.width address (2 * size) after.0 after.1;
       trust = sym (ap (λ (f : StackFrame). f.trust) is);
     }
 
@@ -149,12 +158,13 @@ has_record s f g e =
       size = size.0;
       address = address.0;
       saved = r.saved;
+      word = r.word;
       is_size = size.1;
       points = address.1;
       above = grind (arith, nat_tests, above.0);
-      low = r.low;
       first = r.first;
       second = r.second;
+      is_return = r.is_return;
       after = r.after;
       trust = r.trust;
     }
@@ -167,5 +177,5 @@ climbs s f g e =
     let after = r.after in
     let some = wide s.width r.size r.is_size in
     let first = in_stack s r.address r.saved r.size r.is_size r.first in
-    let second = in_stack s (r.address + r.size) g.instruction r.size r.is_size r.second in
+    let second = in_stack s (r.address + r.size) r.word r.size r.is_size r.second in
     (omega (arith, r.above), omega (arith, first.0), omega (arith, second.1))

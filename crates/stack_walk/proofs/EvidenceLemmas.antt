@@ -1,19 +1,22 @@
 -- Each caller and each candidate has its evidence.
-use Rattle.std.proofs.Common.{◌≡◌, ◌∙◌, ℕ, ◌+◌, ◌-◌, ◌*◌, ◌^◌, List, [], ◌∷◌, ◌++◌, true, Option, Some, None, refl, ap, sym, arith}
-use Rattle.std.specs.Prelude.{All, nat_le, nat_lt, if◌then◌else◌}
+use Rattle.std.proofs.Common.{◌≡◌, ◌∙◌, ℕ, ◌+◌, ◌-◌, ◌*◌, List, [], ◌∷◌, ◌++◌, true, Option, Some, None, refl, ap, sym, arith, inl, inr}
+use Rattle.std.specs.Prelude.{All, nat_le, slice_get, if◌then◌else◌}
 use Rattle.std.specs.List.{cons_option, filter_map, range_with_len}
 use Rattle.std.specs.Option.{option_and_then}
 use Rattle.std.proofs.lemmas.Bool.Decides.{nat_tests}
 use Rattle.std.proofs.lemmas.List.Elements.{All-append, All-cons, All-nil, All-take}
 use Rattle.minidump.specs.declared.MinidumpContext.{MinidumpContext}
 use Rattle.minidump.specs.Below.System.Cpu.{pointer_bytes}
-use Rattle.stack_walk.specs.declared.frame.FrameTrust.TheVariants.{Scan}
+use Rattle.stack_walk.specs.declared.frame.FrameTrust.TheVariants.{Link, Scan}
 use Rattle.stack_walk.specs.declared.frame.StackFrame.{StackFrame}
-use Rattle.stack_walk.specs.Evidence.{HasEvidence}
-use Rattle.stack_walk.specs.Frames.{AreCallers, AreFrames, StackValue, candidate_at, candidate_by, context_frame, firsts, may_have_called, pointer_at, scan}
+use Rattle.stack_walk.specs.Addresses.{address_after, unsigned}
+use Rattle.stack_walk.specs.Evidence.{HasEvidence, IsFromLink, IsShown}
+use Rattle.stack_walk.specs.Frames.{AreCallers, AreFrames, StackValue, candidate_at, candidate_by, context_frame, firsts, lacks, link_candidate}
+use Rattle.stack_walk.specs.Frames.{link_candidate_at, link_frame, link_in, may_have_called, may_have_linked, pointer_at, return_at, scan}
 use Rattle.stack_walk.specs.Frames.{word_candidate, word_candidates, words_above, words_below}
 use Rattle.stack_walk.specs.Lookups.{call_site}
-use Rattle.stack_walk.proofs.CallerLemmas.{Record, has_record, passed, step}
+use Rattle.stack_walk.proofs.AddressLemmas.{sum_after}
+use Rattle.stack_walk.proofs.CallerLemmas.{Record, has_record, mapped, passed, step}
 use Rattle.stack_walk.proofs.FoundLemmas.{All-firsts}
 
 -- a word below a stack pointer
@@ -28,41 +31,46 @@ of_caller s f g r =
     let after : g.stack_pointer ≡ (r.address + r.size) + r.size = r.after ∙ omega arith in
     record {
       address = r.address + r.size;
+      word = r.word;
       is_address = rw (r.is_size, r.trust, after) (below (r.address + r.size) r.size);
       stands = r.second;
+      is_return = r.is_return;
     }
 
--- a candidate has the word as its return address
-by_word : (s : StackValue) (after word : ℕ) (f : StackFrame) → candidate_by s after word ≡ Some f
-    → ◌≡◌ {A = StackFrame} (record { instruction = word; stack_pointer = after; frame_pointer = None; trust = Scan }) f
-by_word s after word f e =
+-- a candidate has the return address of its word
+by_return : (s : StackValue) (after address : ℕ) (f : StackFrame) → candidate_by s after address ≡ Some f
+    → ◌≡◌ {A = StackFrame} (record { instruction = address; stack_pointer = after; frame_pointer = None; trust = Scan }) f
+by_return s after address f e =
     let call =
     step (λ call. if may_have_called s call
-    then Some (record { instruction = word; stack_pointer = after; frame_pointer = None; trust = Scan })
-    else None) (call_site s.cpu word) f e
+    then Some (record { instruction = address; stack_pointer = after; frame_pointer = None; trust = Scan })
+    else None) (call_site s.cpu address) f e
     in
     let code =
     passed (may_have_called s call.0)
-    (Some (record { instruction = word; stack_pointer = after; frame_pointer = None; trust = Scan })) f call.2
+    (Some (record { instruction = address; stack_pointer = after; frame_pointer = None; trust = Scan })) f call.2
     in
     let same : ◌≡◌ {A = Option StackFrame}
-    (Some (record { instruction = word; stack_pointer = after; frame_pointer = None; trust = Scan })) (Some f) =
+    (Some (record { instruction = address; stack_pointer = after; frame_pointer = None; trust = Scan })) (Some f) =
     code.1
     in cc
 
 of_word : (s : StackValue) (size address : ℕ) (f : StackFrame) → pointer_bytes s.width ≡ Some size → candidate_at s size address ≡ Some f
     → HasEvidence s f
 of_word s size address f is_size e =
-    let low =
-    passed (nat_lt (address + size) (2 ^ 64)) (option_and_then (candidate_by s (address + size)) (pointer_at s address)) f e
+    let after = step (λ after. option_and_then (candidate_by s after) (return_at s address)) (address_after s.width address size) f e in
+    let returned = step (candidate_by s after.0) (return_at s address) f after.2 in
+    let word = mapped (unsigned s.code_bits) (pointer_at s address) returned.0 returned.1 in
+    let is = by_return s after.0 returned.0 f returned.2 in
+    let there : f.stack_pointer ≡ address + size =
+    sym (ap (λ (g : StackFrame). g.stack_pointer) is) ∙ sum_after s.width address size after.0 after.1
     in
-    let word = step (candidate_by s (address + size)) (pointer_at s address) f low.1 in
-    let is = by_word s (address + size) word.0 f word.2 in
     record {
       address = address;
-      is_address =
-          rw (is_size, sym (ap (λ (g : StackFrame). g.trust) is), sym (ap (λ (g : StackFrame). g.stack_pointer) is)) (below address size);
-      stands = word.1 ∙ ap (λ (g : StackFrame). Some g.instruction) is;
+      word = word.0;
+      is_address = rw (is_size, sym (ap (λ (g : StackFrame). g.trust) is), there) (below address size);
+      stands = word.1;
+      is_return = sym (ap (λ (g : StackFrame). g.instruction) is) ∙ word.2;
     }
 
 of_candidate : (s : StackValue) (number : ℕ) (f : StackFrame) → word_candidate s number ≡ Some f → HasEvidence s f
@@ -70,6 +78,51 @@ unfolding word_candidate
 of_candidate s number f e =
     let size = step (λ size. candidate_at s size (number * size)) (pointer_bytes s.width) f e in
     of_word s size.0 (number * size.0) f size.1 size.2
+
+-- ---- the link register
+
+-- the candidate of the link register has its address
+by_link : (s : StackValue) (address : ℕ) (first f : StackFrame) → link_frame s address first ≡ Some f
+    → ◌≡◌ {A = StackFrame}
+    (record { instruction = address; stack_pointer = first.stack_pointer; frame_pointer = first.frame_pointer; trust = Link }) f
+by_link s address first f e =
+    let call =
+    step (λ call. if may_have_linked s call
+    then Some (record { instruction = address; stack_pointer = first.stack_pointer; frame_pointer = first.frame_pointer; trust = Link })
+    else None) (call_site s.cpu address) f e
+    in
+    let code =
+    passed (may_have_linked s call.0)
+    (Some (record { instruction = address; stack_pointer = first.stack_pointer; frame_pointer = first.frame_pointer; trust = Link })) f call.2
+    in
+    let same : ◌≡◌ {A = Option StackFrame}
+    (Some (record { instruction = address; stack_pointer = first.stack_pointer; frame_pointer = first.frame_pointer; trust = Link })) (Some f) =
+    code.1
+    in cc
+
+of_link : (s : StackValue) (c : MinidumpContext) (frames : List StackFrame) (f : StackFrame) → link_candidate s (link_in c) frames ≡ Some f
+    → IsFromLink s c f
+unfolding link_candidate
+of_link s c frames f e =
+    let word = step (λ word. link_candidate_at s frames (unsigned s.code_bits word)) (link_in c) f e in
+    let address = unsigned s.code_bits word.0 in
+    let lacking = passed (lacks frames address) (option_and_then (link_frame s address) (slice_get frames 0)) f word.2 in
+    let first = step (link_frame s address) (slice_get frames 0) f lacking.1 in
+    let is = by_link s address first.0 f first.2 in
+    record {
+      word = word.0;
+      trust = sym (ap (λ (g : StackFrame). g.trust) is);
+      is_link = word.1;
+      is_return = sym (ap (λ (g : StackFrame). g.instruction) is);
+    }
+
+-- ---- all frames
+
+in_stack : (s : StackValue) (c : MinidumpContext) (f : StackFrame) → HasEvidence s f → IsShown s c f
+in_stack s c f evidence = inl evidence
+
+in_link : (s : StackValue) (c : MinidumpContext) (f : StackFrame) → IsFromLink s c f → IsShown s c f
+in_link s c f from = inr from
 
 one_more : {Y : Type 0} (P : Y → Type 0) (o : Option Y) (ys : List Y) → ((y : Y) → o ≡ Some y → P y) → All P ys → All P (cons_option o ys)
 one_more P None ys gives rest = rest
@@ -79,29 +132,39 @@ all_given : {X Y : Type 0} (P : Y → Type 0) (h : X → Option Y) → ((x : X) 
 all_given P h gives [] = All-nil P
 all_given P h gives (x ∷ xs) = one_more P (h x) (filter_map h xs) (gives x) (all_given P h gives xs)
 
-all_callers : (s : StackValue) (f : StackFrame) (gs : List StackFrame) (last : StackFrame) → AreCallers s f gs last → All (HasEvidence s) gs
-all_callers s f [] last callers = All-nil (HasEvidence s)
-all_callers s f (g ∷ gs) last callers =
-    All-cons (HasEvidence s) g gs (of_caller s f g (has_record s f g callers.0)) (all_callers s g gs last callers.1)
+all_callers : (s : StackValue) (c : MinidumpContext) (f : StackFrame) (gs : List StackFrame) (last : StackFrame) → AreCallers s f gs last
+    → All (IsShown s c) gs
+all_callers s c f [] last callers = All-nil (IsShown s c)
+all_callers s c f (g ∷ gs) last callers =
+    All-cons (IsShown s c) g gs (in_stack s c g (of_caller s f g (has_record s f g callers.0))) (all_callers s c g gs last callers.1)
 
-of_words : (s : StackValue) (words : ℕ × ℕ) → All (HasEvidence s) (word_candidates s words)
-of_words s words = all_given (HasEvidence s) (word_candidate s) (of_candidate s) (range_with_len words.0 words.1)
+of_words : (s : StackValue) (c : MinidumpContext) (words : ℕ × ℕ) → All (IsShown s c) (word_candidates s words)
+of_words s c words =
+    all_given (IsShown s c) (word_candidate s) (λ number f e. in_stack s c f (of_candidate s number f e)) (range_with_len words.0 words.1)
 
-all_candidates : (s : StackValue) (frames : List StackFrame) (limit : ℕ) → All (HasEvidence s) (scan s frames limit)
-all_candidates s frames limit =
+of_register : (s : StackValue) (c : MinidumpContext) (frames : List StackFrame)
+    → All (IsShown s c) (cons_option (link_candidate s (link_in c) frames) [])
+of_register s c frames =
+    one_more (IsShown s c) (link_candidate s (link_in c) frames) [] (λ f e. in_link s c f (of_link s c frames f e)) (All-nil (IsShown s c))
+
+all_candidates : (s : StackValue) (c : MinidumpContext) (frames : List StackFrame) (limit : ℕ) → All (IsShown s c) (scan s (link_in c) frames limit)
+all_candidates s c frames limit =
+    let link = cons_option (link_candidate s (link_in c) frames) [] in
     let below = word_candidates s (words_below s frames) in
     let above = word_candidates s (words_above s frames) in
-    All-take (HasEvidence s) limit (firsts (below ++ above))
-    (All-firsts (HasEvidence s) (below ++ above)
-    (All-append (HasEvidence s) below above (of_words s (words_below s frames)) (of_words s (words_above s frames))))
+    All-take (IsShown s c) limit (firsts ((link ++ below) ++ above))
+    (All-firsts (IsShown s c) ((link ++ below) ++ above)
+    (All-append (IsShown s c) (link ++ below) above
+    (All-append (IsShown s c) link below (of_register s c frames) (of_words s c (words_below s frames)))
+    (of_words s c (words_above s frames))))
 
 -- each frame but the first
 pub all_evidence : (s : StackValue) (c : MinidumpContext) (limit : ℕ) (first : StackFrame) (rest : List StackFrame)
-    → AreFrames s c limit (first ∷ rest) → All (HasEvidence s) rest
+    → AreFrames s c limit (first ∷ rest) → All (IsShown s c) rest
 all_evidence s c limit first rest x =
-    let candidates = scan s x.walk limit in
+    let candidates = scan s (link_in c) x.walk limit in
     let whole : first ∷ rest ≡ context_frame c ∷ (x.is_walk.callers ++ candidates) = x.whole ∙ ap (λ w. w ++ candidates) x.is_walk.whole in
     let same : x.is_walk.callers ++ candidates ≡ rest = cc in
     rw (sym same)
-    (All-append (HasEvidence s) x.is_walk.callers candidates
-    (all_callers s (context_frame c) x.is_walk.callers x.last x.is_walk.are_callers) (all_candidates s x.walk limit))
+    (All-append (IsShown s c) x.is_walk.callers candidates
+    (all_callers s c (context_frame c) x.is_walk.callers x.last x.is_walk.are_callers) (all_candidates s c x.walk limit))

@@ -134,6 +134,10 @@ found_enough limit fs gs f enough found =
       seen = λ word short. absurd (omega (arith, short, enough));
     }
 
+-- no candidate more
+pub found_same : (limit : ℕ) (fs : List StackFrame) (f : Found) → AreFound limit fs f → AreFound limit (fs ++ []) f
+found_same limit fs f found = subst (λ (l : List StackFrame). AreFound limit l f) (sym (append-nil fs)) found
+
 -- ---- the candidates of words
 
 range_next : (a n : ℕ) → range_with_len a (suc n) ≡ range_with_len a n ++ ((a + n) ∷ [])
@@ -166,7 +170,7 @@ rest_of s a n (suc k) =
 
 pub words_none : (s : StackValue) (limit a : ℕ) (fs : List StackFrame) (f : Found) → AreFound limit fs f
     → AreFound limit (fs ++ word_candidates s (a, 0)) f
-words_none s limit a fs f found = subst (λ (l : List StackFrame). AreFound limit l f) (sym (append-nil fs)) found
+words_none s limit a fs f found = found_same limit fs f found
 
 joined : (s : StackValue) (a n : ℕ) (fs : List StackFrame)
     → (fs ++ word_candidates s (a, n)) ++ cons_option (word_candidate s (a + n)) [] ≡ fs ++ word_candidates s (a, n + 1)

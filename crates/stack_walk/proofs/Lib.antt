@@ -1,4 +1,5 @@
 -- The lemmas of this crate.
+pub mod AddressLemmas
 pub mod CallerLemmas
 pub mod ContextLemmas
 pub mod WalkLemmas

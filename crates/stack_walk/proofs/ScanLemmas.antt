@@ -20,9 +20,10 @@ use Rattle.minidump.specs.Below.System.Cpu.{pointer_bytes}
 use Rattle.stack_walk.specs.declared.frame.FrameTrust.{FrameTrust}
 use Rattle.stack_walk.specs.declared.frame.FrameTrust.TheVariants.{FramePointer}
 use Rattle.stack_walk.specs.declared.frame.StackFrame.{StackFrame}
-use Rattle.stack_walk.specs.Frames.{StackValue, candidate_at, candidate_by, firsts, is_other, pointer_at, record_by, scan, stack_bytes, word_candidate}
+use Rattle.stack_walk.specs.Addresses.{address_after, unsigned}
+use Rattle.stack_walk.specs.Frames.{StackValue, candidate_at, candidate_by, firsts, is_other, link_candidate, pointer_at, record_by, return_at, scan, stack_bytes, word_candidate}
 use Rattle.stack_walk.specs.Frames.{word_candidates, words_above, words_below, words_between, words_from}
-use Rattle.stack_walk.proofs.CallerLemmas.{base_of, end_of, in_stack, passed, step, wide}
+use Rattle.stack_walk.proofs.CallerLemmas.{base_of, end_of, in_stack, mapped, step, wide}
 
 -- ---- what is given of the numbers of a range
 
@@ -58,74 +59,74 @@ OnStack from number size s = (base_of s ≤ number * size) × (number * size + s
 abbrev IsWithin : ℕ × ℕ → ℕ → Type 0
 IsWithin words number = (words.0 ≤ number) × (number < words.0 + words.1)
 
-within : (region : Option UnifiedRegion) (modules : List ModuleValue) (memory : UnifiedRegions) (infos : List InfoRegion) (cpu : Cpu) (width : PointerWidth) (from number size : ℕ)
+within : (region : Option UnifiedRegion) (modules : List ModuleValue) (memory : UnifiedRegions) (infos : List InfoRegion) (cpu : Cpu) (width : PointerWidth) (bits from number size : ℕ)
     → pointer_bytes width ≡ Some size
-    → OnStack from number size (record { region = region; modules = modules; memory = memory; infos = infos; cpu = cpu; width = width })
-    → IsWithin (words_from (record { region = region; modules = modules; memory = memory; infos = infos; cpu = cpu; width = width }) from) number
-within None modules memory infos cpu width from number size is on = absurd (omega (arith, on.1, wide width size is))
-within (Some r) modules memory infos cpu Bits32 from number size is on =
+    → OnStack from number size (record { region = region; modules = modules; memory = memory; infos = infos; cpu = cpu; width = width; code_bits = bits })
+    → IsWithin (words_from (record { region = region; modules = modules; memory = memory; infos = infos; cpu = cpu; width = width; code_bits = bits }) from) number
+within None modules memory infos cpu width bits from number size is on = absurd (omega (arith, on.1, wide width size is))
+within (Some r) modules memory infos cpu Bits32 bits from number size is on =
     let k : 4 ≡ size = cc in
     let there = rw (sym k) at on in
     let c = div_ceil_times (max from r.base_address) 4 (omega arith) in
     (omega (arith, there.0, there.1, there.2, c.0, c.1), omega (arith, there.0, there.1, there.2, c.0, c.1))
-within (Some r) modules memory infos cpu Bits64 from number size is on =
+within (Some r) modules memory infos cpu Bits64 bits from number size is on =
     let k : 8 ≡ size = cc in
     let there = rw (sym k) at on in
     let c = div_ceil_times (max from r.base_address) 8 (omega arith) in
     (omega (arith, there.0, there.1, there.2, c.0, c.1), omega (arith, there.0, there.1, there.2, c.0, c.1))
-within (Some r) modules memory infos cpu Unknown from number size is on = cc
+within (Some r) modules memory infos cpu Unknown bits from number size is on = cc
 
 -- a word below an address
-below : (region : Option UnifiedRegion) (modules : List ModuleValue) (memory : UnifiedRegions) (infos : List InfoRegion) (cpu : Cpu) (width : PointerWidth) (from until number size : ℕ)
+below : (region : Option UnifiedRegion) (modules : List ModuleValue) (memory : UnifiedRegions) (infos : List InfoRegion) (cpu : Cpu) (width : PointerWidth) (bits from until number size : ℕ)
     → pointer_bytes width ≡ Some size
-    → IsWithin (words_from (record { region = region; modules = modules; memory = memory; infos = infos; cpu = cpu; width = width }) from) number
+    → IsWithin (words_from (record { region = region; modules = modules; memory = memory; infos = infos; cpu = cpu; width = width; code_bits = bits }) from) number
     → number * size + size ≤ until
-    → IsWithin (words_between (record { region = region; modules = modules; memory = memory; infos = infos; cpu = cpu; width = width }) from until) number
-below region modules memory infos cpu Bits32 from until number size is on high =
+    → IsWithin (words_between (record { region = region; modules = modules; memory = memory; infos = infos; cpu = cpu; width = width; code_bits = bits }) from until) number
+below region modules memory infos cpu Bits32 bits from until number size is on high =
     let k : 4 ≡ size = cc in
     let there = rw (sym k) at high in
     (on.0, omega (arith, on.0, on.1, there))
-below region modules memory infos cpu Bits64 from until number size is on high =
+below region modules memory infos cpu Bits64 bits from until number size is on high =
     let k : 8 ≡ size = cc in
     let there = rw (sym k) at high in
     (on.0, omega (arith, on.0, on.1, there))
-below region modules memory infos cpu Unknown from until number size is on high = cc
+below region modules memory infos cpu Unknown bits from until number size is on high = cc
 
 -- ---- how many there are
 
-few_words : (region : Option UnifiedRegion) (modules : List ModuleValue) (memory : UnifiedRegions) (infos : List InfoRegion) (cpu : Cpu) (width : PointerWidth) (from : ℕ)
-    → 2 * (words_from (record { region = region; modules = modules; memory = memory; infos = infos; cpu = cpu; width = width }) from).1
-    ≤ length (stack_bytes (record { region = region; modules = modules; memory = memory; infos = infos; cpu = cpu; width = width }))
-few_words None modules memory infos cpu width from = omega arith
-few_words (Some r) modules memory infos cpu Bits32 from = omega arith
-few_words (Some r) modules memory infos cpu Bits64 from = omega arith
-few_words (Some r) modules memory infos cpu Unknown from = omega arith
+few_words : (region : Option UnifiedRegion) (modules : List ModuleValue) (memory : UnifiedRegions) (infos : List InfoRegion) (cpu : Cpu) (width : PointerWidth) (bits from : ℕ)
+    → 4 * (words_from (record { region = region; modules = modules; memory = memory; infos = infos; cpu = cpu; width = width; code_bits = bits }) from).1
+    ≤ length (stack_bytes (record { region = region; modules = modules; memory = memory; infos = infos; cpu = cpu; width = width; code_bits = bits }))
+few_words None modules memory infos cpu width bits from = omega arith
+few_words (Some r) modules memory infos cpu Bits32 bits from = omega arith
+few_words (Some r) modules memory infos cpu Bits64 bits from = omega arith
+few_words (Some r) modules memory infos cpu Unknown bits from = omega arith
 
-abbrev AreHalf : StackValue → ℕ × ℕ → Type 0
-AreHalf s words = 2 * words.1 ≤ length (stack_bytes s)
+abbrev AreQuarter : StackValue → ℕ × ℕ → Type 0
+AreQuarter s words = 4 * words.1 ≤ length (stack_bytes s)
 
-half_from : (s : StackValue) (from : ℕ) → AreHalf s (words_from s from)
-half_from s from = few_words s.region s.modules s.memory s.infos s.cpu s.width from
+quarter_from : (s : StackValue) (from : ℕ) → AreQuarter s (words_from s from)
+quarter_from s from = few_words s.region s.modules s.memory s.infos s.cpu s.width s.code_bits from
 
-half_between : (s : StackValue) (from until : ℕ) → AreHalf s (words_between s from until)
-half_between s from until = omega (arith, half_from s from)
+quarter_between : (s : StackValue) (from until : ℕ) → AreQuarter s (words_between s from until)
+quarter_between s from until = omega (arith, quarter_from s from)
 
-half_above : (s : StackValue) (frames : List StackFrame) → AreHalf s (words_above s frames)
-half_above s frames = by (slice_get frames (length frames - 1))
+quarter_above : (s : StackValue) (frames : List StackFrame) → AreQuarter s (words_above s frames)
+quarter_above s frames = by (slice_get frames (length frames - 1))
   where
-    by : (o : Option StackFrame) → AreHalf s (option_map_or (λ last. words_from s last.stack_pointer) o (0, 0))
+    by : (o : Option StackFrame) → AreQuarter s (option_map_or (λ last. words_from s last.stack_pointer) o (0, 0))
     by None = omega arith
-    by (Some last) = half_from s last.stack_pointer
+    by (Some last) = quarter_from s last.stack_pointer
 
-half_below : (s : StackValue) (frames : List StackFrame) → AreHalf s (words_below s frames)
+quarter_below : (s : StackValue) (frames : List StackFrame) → AreQuarter s (words_below s frames)
 unfolding words_below
-half_below s [] = omega arith
-half_below s (first ∷ []) = omega arith
-half_below s (first ∷ caller ∷ callers) = by (record_by caller.trust first)
+quarter_below s [] = omega arith
+quarter_below s (first ∷ []) = omega arith
+quarter_below s (first ∷ caller ∷ callers) = by (record_by caller.trust first)
   where
-    by : (o : Option ℕ) → AreHalf s (option_map_or (words_between s first.stack_pointer) o (0, 0))
+    by : (o : Option ℕ) → AreQuarter s (option_map_or (words_between s first.stack_pointer) o (0, 0))
     by None = omega arith
-    by (Some until) = half_between s first.stack_pointer until
+    by (Some until) = quarter_between s first.stack_pointer until
 
 few_candidates : (s : StackValue) (words : ℕ × ℕ) → length (word_candidates s words) ≤ words.1
 few_candidates s words =
@@ -143,25 +144,43 @@ firsts_few : (fs : List StackFrame) → length (firsts fs) ≤ length fs
 firsts_few [] = omega arith
 firsts_few (f ∷ fs) = omega (arith, filter_few (is_other f) (firsts fs), firsts_few fs)
 
--- all candidates of a walk, without a limit
-abbrev candidates_of : StackValue → List StackFrame → List StackFrame
-candidates_of s frames = word_candidates s (words_below s frames) ++ word_candidates s (words_above s frames)
+-- the candidate of the link register, if there is one, and those of the words below the record
+abbrev linked : StackValue → Option ℕ → List StackFrame → List StackFrame
+linked s link frames = cons_option (link_candidate s link frames) []
 
--- they are no more than the stack has bytes
-all_taken : (s : StackValue) (frames : List StackFrame) (limit : ℕ) → length (stack_bytes s) ≤ limit
-    → scan s frames limit ≡ firsts (candidates_of s frames)
-all_taken s frames limit enough =
+abbrev lower : StackValue → Option ℕ → List StackFrame → List StackFrame
+lower s link frames = linked s link frames ++ word_candidates s (words_below s frames)
+
+-- all candidates of a walk, without a limit
+abbrev candidates_of : StackValue → Option ℕ → List StackFrame → List StackFrame
+candidates_of s link frames = lower s link frames ++ word_candidates s (words_above s frames)
+
+one_linked : (o : Option StackFrame) → length (cons_option o []) ≤ 1
+one_linked None = omega arith
+one_linked (Some f) = omega arith
+
+-- they are no more than a stack of four bytes has
+all_taken : (s : StackValue) (link : Option ℕ) (frames : List StackFrame) (limit : ℕ) → 4 ≤ length (stack_bytes s)
+    → length (stack_bytes s) ≤ limit → scan s link frames limit ≡ firsts (candidates_of s link frames)
+all_taken s link frames limit some enough =
     let below = words_below s frames in
     let above = words_above s frames in
-    take_all limit (firsts (candidates_of s frames))
-    (omega (arith, enough, half_below s frames, half_above s frames, few_candidates s below, few_candidates s above, firsts_few (candidates_of s frames), length-append (word_candidates s below) (word_candidates s above)))
+    let of_low = length-append (linked s link frames) (word_candidates s below) in
+    let of_all = length-append (lower s link frames) (word_candidates s above) in
+    let one = one_linked (link_candidate s link frames) in
+    let low = few_candidates s below in
+    let high = few_candidates s above in
+    let few = firsts_few (candidates_of s link frames) in
+    take_all limit (firsts (candidates_of s link frames))
+    (omega (arith, some, enough, quarter_below s frames, quarter_above s frames, one, low, high, few, of_low, of_all))
 
 -- a candidate's word lies on the stack
 on_stack : (s : StackValue) (size address : ℕ) (f : StackFrame) → pointer_bytes s.width ≡ Some size → candidate_at s size address ≡ Some f
     → (base_of s ≤ address) × (address + size ≤ end_of s)
 on_stack s size address f is e =
-    let low = passed _ (option_and_then (candidate_by s (address + size)) (pointer_at s address)) f e in
-    let word = step (candidate_by s (address + size)) (pointer_at s address) f low.1 in
+    let after = step (λ after. option_and_then (candidate_by s after) (return_at s address)) (address_after s.width address size) f e in
+    let returned = step (candidate_by s after.0) (return_at s address) f after.2 in
+    let word = mapped (unsigned s.code_bits) (pointer_at s address) returned.0 returned.1 in
     in_stack s address word.0 size is word.1
 
 candidate_of : (s : StackValue) (number size : ℕ) (f : StackFrame) → pointer_bytes s.width ≡ Some size → word_candidate s number ≡ Some f
@@ -231,20 +250,26 @@ from_there : (s : StackValue) (from number size : ℕ) (f : StackFrame) → IsCa
     → IsWithin (words_from s from) number
 from_there s from number size f is above =
     let on = on_stack s size (number * size) f is.0 (candidate_of s number size f is.0 is.1) in
-    within s.region s.modules s.memory s.infos s.cpu s.width from number size is.0 (on.0, on.1, above)
+    within s.region s.modules s.memory s.infos s.cpu s.width s.code_bits from number size is.0 (on.0, on.1, above)
+
+-- a stack with such a word has four bytes
+has_word : (s : StackValue) (number size : ℕ) (f : StackFrame) → IsCandidate s size number f → 4 ≤ length (stack_bytes s)
+has_word s number size f is =
+    let on = on_stack s size (number * size) f is.0 (candidate_of s number size f is.0 is.1) in
+    omega (arith, on.0, on.1, wide s.width size is.0)
 
 -- each word from the last frame's stack pointer on
-pub each_above : (s : StackValue) (frames : List StackFrame) (last : StackFrame) (limit number size : ℕ) (f : StackFrame)
+pub each_above : (s : StackValue) (link : Option ℕ) (frames : List StackFrame) (last : StackFrame) (limit number size : ℕ) (f : StackFrame)
     → slice_get frames (length frames - 1) ≡ Some last → pointer_bytes s.width ≡ Some size → last.stack_pointer ≤ number * size
-    → word_candidate s number ≡ Some f → length (stack_bytes s) ≤ limit → Contains (words_of (scan s frames limit)) f.instruction
-each_above s frames last limit number size f is_last is above e enough =
+    → word_candidate s number ≡ Some f → length (stack_bytes s) ≤ limit → Contains (words_of (scan s link frames limit)) f.instruction
+each_above s link frames last limit number size f is_last is above e enough =
     let on = from_there s last.stack_pointer number size f (is, e) above in
     let words : words_above s frames ≡ words_from s last.stack_pointer =
     ap (λ (o : Option StackFrame). option_map_or (λ last. words_from s last.stack_pointer) o (0, 0)) is_last
     in
-    rw (all_taken s frames limit enough)
-    (kept (candidates_of s frames) f
-    (Contains-append_right (word_candidates s (words_below s frames)) (word_candidates s (words_above s frames)) f
+    rw (all_taken s link frames limit (has_word s number size f (is, e)) enough)
+    (kept (candidates_of s link frames) f
+    (Contains-append_right (lower s link frames) (word_candidates s (words_above s frames)) f
     (of_words s (words_above s frames) number f (rw words on) e)))
 
 words_of_first : (s : StackValue) (first caller : StackFrame) (callers : List StackFrame) (until : ℕ) → caller.trust ≡ FramePointer
@@ -255,17 +280,18 @@ words_of_first s first caller callers until trust points =
     ∙ ap (λ (o : Option ℕ). option_map_or (words_between s first.stack_pointer) o (0, 0)) points
 
 -- each word of the first frame below its until
-pub each_below : (s : StackValue) (first caller : StackFrame) (callers : List StackFrame) (until limit number size : ℕ) (f : StackFrame)
+pub each_below : (s : StackValue) (link : Option ℕ) (first caller : StackFrame) (callers : List StackFrame) (until limit number size : ℕ) (f : StackFrame)
     → caller.trust ≡ FramePointer → first.frame_pointer ≡ Some until → pointer_bytes s.width ≡ Some size
     → first.stack_pointer ≤ number * size → number * size + size ≤ until → word_candidate s number ≡ Some f
-    → length (stack_bytes s) ≤ limit → Contains (words_of (scan s (first ∷ caller ∷ callers) limit)) f.instruction
-each_below s first caller callers until limit number size f trust points is above high e enough =
+    → length (stack_bytes s) ≤ limit → Contains (words_of (scan s link (first ∷ caller ∷ callers) limit)) f.instruction
+each_below s link first caller callers until limit number size f trust points is above high e enough =
     let frames = first ∷ caller ∷ callers in
-    let on = below s.region s.modules s.memory s.infos s.cpu s.width first.stack_pointer until number size is (from_there s first.stack_pointer number size f (is, e) above) high in
-    rw (all_taken s frames limit enough)
-    (kept (candidates_of s frames) f
-    (Contains-append_left (word_candidates s (words_below s frames)) (word_candidates s (words_above s frames)) f
-    (of_words s (words_below s frames) number f (rw (words_of_first s first caller callers until trust points) on) e)))
+    let on = below s.region s.modules s.memory s.infos s.cpu s.width s.code_bits first.stack_pointer until number size is (from_there s first.stack_pointer number size f (is, e) above) high in
+    rw (all_taken s link frames limit (has_word s number size f (is, e)) enough)
+    (kept (candidates_of s link frames) f
+    (Contains-append_left (lower s link frames) (word_candidates s (words_above s frames)) f
+    (Contains-append_right (linked s link frames) (word_candidates s (words_below s frames)) f
+    (of_words s (words_below s frames) number f (rw (words_of_first s first caller callers until trust points) on) e))))
 
 -- ---- none twice
 
@@ -323,5 +349,7 @@ distinct_taken (suc n) [] d = tt
 distinct_taken (suc n) (f ∷ fs) d = (each_taken (λ w. f.instruction == w) n fs d.0, distinct_taken n fs d.1)
 
 -- no return address twice
-pub distinct_scan : (s : StackValue) (frames : List StackFrame) (limit : ℕ) → IsDistinct ◌==◌ (words_of (scan s frames limit))
-distinct_scan s frames limit = distinct_taken limit (firsts (candidates_of s frames)) (distinct_firsts (candidates_of s frames))
+pub distinct_scan : (s : StackValue) (link : Option ℕ) (frames : List StackFrame) (limit : ℕ)
+    → IsDistinct ◌==◌ (words_of (scan s link frames limit))
+distinct_scan s link frames limit =
+    distinct_taken limit (firsts (candidates_of s link frames)) (distinct_firsts (candidates_of s link frames))

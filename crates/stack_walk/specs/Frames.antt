@@ -1,10 +1,10 @@
 -- The frames of a thread: that of its context, its callers by the frame records that the stack
--- holds, and the words of the stack that may be return addresses.
-use Rattle.std.specs.Prelude.{◌≡◌, ℕ, ◌+◌, ◌-◌, ◌*◌, ◌/◌, ◌^◌, ◌==◌, max, min, nat_lt, ◌&&◌, not, Bool}
+-- holds, and the link register and the words of the stack that may be return addresses.
+use Rattle.std.specs.Prelude.{◌≡◌, ℕ, ◌+◌, ◌-◌, ◌*◌, ◌/◌, ◌==◌, max, min, nat_lt, ◌&&◌, not, Bool}
 use Rattle.std.specs.Prelude.{List, [], ◌∷◌, ◌++◌, codes, length, take, slice_get, Option, Some, None}
-use Rattle.std.specs.Prelude.{if◌then◌else◌, unwrap_or}
+use Rattle.std.specs.Prelude.{true, false, if◌then◌else◌, unwrap_or}
 use Rattle.std.specs.Int.{div_ceil}
-use Rattle.std.specs.List.{filter, filter_map, range_with_len}
+use Rattle.std.specs.List.{cons_option, filter, filter_map, range_with_len}
 use Rattle.std.specs.Option.{option_and_then, option_map, option_map_or}
 use Rattle.minidump.specs.declared.MinidumpContext.{MinidumpContext}
 use Rattle.minidump.specs.declared.MinidumpRawContext.{MinidumpRawContext}
@@ -23,13 +23,16 @@ use Rattle.minidump.specs.Below.System.Cpu.{pointer_bytes}
 use Rattle.minidump.specs.Promise.{module_list_stream}
 use Rattle.stack_walk.specs.declared.frame.FrameTrust.{FrameTrust}
 use Rattle.stack_walk.specs.declared.frame.FrameTrust.TheVariants.{Context, Cfi, FramePointer, Scan}
+use Rattle.stack_walk.specs.declared.frame.FrameTrust.TheVariants.{Link}
 use Rattle.stack_walk.specs.declared.frame.StackFrame.{StackFrame}
 use Rattle.stack_walk.specs.declared.stack.Stack.{Stack}
+use Rattle.stack_walk.specs.Addresses.{address_after, unsigned}
 use Rattle.stack_walk.specs.Calls.{is_past_headers, may_end_call}
 use Rattle.stack_walk.specs.Lookups.{call_site, is_code, may_be_run}
 
 -- a stack: the region of memory that holds it, if the dump has one, the modules, the memory, what is
--- known of that, the processor, and the width of an address
+-- known of that, the processor, the width of an address, and how many of the low bits of a return
+-- address are its address
 pub record StackValue : Type 0 where
   pub region : Option UnifiedRegion
   pub modules : List ModuleValue
@@ -37,6 +40,7 @@ pub record StackValue : Type 0 where
   pub infos : List InfoRegion
   pub cpu : Cpu
   pub width : PointerWidth
+  pub code_bits : ℕ
 
 -- the stack of a `Stack`, as its fields have it
 abbrev pub stack_of : Stack → StackValue
@@ -47,6 +51,7 @@ stack_of s = record {
   infos = info_regions (info_list s.infos.now);
   cpu = s.cpu;
   width = s.width;
+  code_bits = s.code_bits;
 }
 
 -- the word of a region at an address, as wide as an address
@@ -58,6 +63,10 @@ pointer_in Unknown region address = None
 -- the word that a stack holds at an address
 abbrev pub pointer_at : StackValue → ℕ → Option ℕ
 pointer_at s address = option_and_then (λ region. pointer_in s.width region address) s.region
+
+-- the return address that it holds there, without the bits that may sign it
+abbrev pub return_at : StackValue → ℕ → Option ℕ
+return_at s address = option_map (unsigned s.code_bits) (pointer_at s address)
 
 -- the bytes of a stack
 abbrev pub stack_bytes : StackValue → List ℕ
@@ -90,6 +99,19 @@ context_frame c = record {
   trust = Context;
 }
 
+-- whether a processor has a link register: the return address of a function that hasn't saved it
+abbrev pub has_link : MinidumpRawContext → Bool
+has_link (X86 c) = false
+has_link (Amd64 c) = false
+has_link (Arm c) = true
+has_link (Arm64 c) = true
+has_link (OldArm64 c) = true
+
+-- the link register of a context
+abbrev pub link_in : MinidumpContext → Option ℕ
+link_in c = if has_link c.raw then valid_value_in c.valid (registers_of c.raw) (codes "lr")
+    else None
+
 -- ---- callers, by frame pointers
 
 -- the caller that a record gives, by the address after the record, the saved frame pointer and the
@@ -105,13 +127,12 @@ caller_by s after saved address = option_and_then (λ call. if is_code s.modules
     else None) (call_site s.cpu address)
 
 -- the frame to which the record at an address returns. A record is two words: the saved frame
--- pointer and the return address. None where the address after it has more than 64 bits
+-- pointer and the return address. None where no address lies after it
 unfoldable pub caller_at : StackValue → ℕ → ℕ → Option StackFrame
-caller_at s size address =
-    if nat_lt (address + 2 * size) (2 ^ 64)
-    then option_and_then (λ saved. option_and_then (caller_by s (address + 2 * size) saved)
-    (pointer_at s (address + size))) (pointer_at s address)
-    else None
+caller_at s size address = option_and_then
+    (λ after. option_and_then (λ saved. option_and_then (caller_by s after saved)
+    (return_at s (address + size))) (pointer_at s address))
+    (address_after s.width address (2 * size))
 
 -- the caller of a frame: that of the record at its frame pointer, which lies at or above its stack
 -- pointer. On x86 and x86-64 a function pushes the frame pointer and points it to what it pushed,
@@ -145,23 +166,23 @@ abbrev pub may_have_called : StackValue → ℕ → Bool
 may_have_called s call = is_past_headers s.modules call
     && (may_be_run s.infos call && may_end_call s.cpu s.memory call)
 
--- the frame that a word may be the return address of
+-- the frame that an address may be the return address of
 abbrev pub candidate_by : StackValue → ℕ → ℕ → Option StackFrame
-candidate_by s after word = option_and_then
+candidate_by s after address = option_and_then
     (λ call. if may_have_called s call
     then Some (record {
-      instruction = word;
+      instruction = address;
       stack_pointer = after;
       frame_pointer = None;
       trust = Scan;
     })
-    else None) (call_site s.cpu word)
+    else None) (call_site s.cpu address)
 
--- the candidate of the word at an address. None where the address after it has more than 64 bits
+-- the candidate of the word at an address. None where no address lies after it
 abbrev pub candidate_at : StackValue → ℕ → ℕ → Option StackFrame
-candidate_at s size address =
-    if nat_lt (address + size) (2 ^ 64) then option_and_then (candidate_by s (address + size))
-    (pointer_at s address) else None
+candidate_at s size address = option_and_then
+    (λ after. option_and_then (candidate_by s after) (return_at s address))
+    (address_after s.width address size)
 
 -- the same, where the width of an address is known
 abbrev pub address_candidate : StackValue → ℕ → Option StackFrame
@@ -205,6 +226,7 @@ record_by Context f = None
 record_by Cfi f = None
 record_by FramePointer f = f.frame_pointer
 record_by Scan f = None
+record_by Link f = None
 
 -- the words of the first frame of a walk below its record, where its caller is by that: a function
 -- without a record of its own has the frame pointer of a caller further out, and the return
@@ -219,6 +241,54 @@ abbrev pub words_above : StackValue → List StackFrame → ℕ × ℕ
 words_above s frames = option_map_or (λ last. words_from s last.stack_pointer)
     (slice_get frames (length frames - 1)) (0, 0)
 
+-- ---- the candidate of the link register
+
+-- whether the last byte of a call may stand at an address that no word of the stack gives: in a kept
+-- module, where the memory may be run, and by the bytes there, if the dump has them
+abbrev pub may_have_linked : StackValue → ℕ → Bool
+may_have_linked s call = is_code s.modules call
+    && (may_be_run s.infos call && may_end_call s.cpu s.memory call)
+
+-- the frame that the first frame of a walk may return to, where its return address is in the link
+-- register. It has the pointers of the first one: its stack pointer is that or a higher one
+abbrev pub link_frame : StackValue → ℕ → StackFrame → Option StackFrame
+link_frame s address first = option_and_then
+    (λ call. if may_have_linked s call
+    then Some (record {
+      instruction = address;
+      stack_pointer = first.stack_pointer;
+      frame_pointer = first.frame_pointer;
+      trust = Link;
+    })
+    else None) (call_site s.cpu address)
+
+-- whether a frame is found by rules, which say where the return address of a frame is
+abbrev pub is_by_rules : FrameTrust → Bool
+is_by_rules Cfi = true
+is_by_rules _ = false
+
+-- whether a walk lacks the frame with a return address before the caller of its first frame: that
+-- caller isn't found by rules, and has another return address
+abbrev pub lacks_before : ℕ → StackFrame → Bool
+lacks_before address caller =
+    not (is_by_rules caller.trust) && not (caller.instruction == address)
+
+-- whether a walk lacks the frame with a return address after its first frame
+abbrev pub lacks : List StackFrame → ℕ → Bool
+lacks frames address = option_map_or (lacks_before address) (slice_get frames 1) true
+
+-- the candidate of the link register, by its address
+abbrev pub link_candidate_at : StackValue → List StackFrame → ℕ → Option StackFrame
+link_candidate_at s frames address = if lacks frames address
+    then option_and_then (link_frame s address) (slice_get frames 0) else None
+
+-- the candidate of the link register of a walk's context, if it has one
+unfoldable pub link_candidate : StackValue → Option ℕ → List StackFrame → Option StackFrame
+link_candidate s link frames =
+    option_and_then (λ word. link_candidate_at s frames (unsigned s.code_bits word)) link
+
+-- ---- all candidates
+
 -- whether a frame has another return address
 abbrev pub is_other : StackFrame → StackFrame → Bool
 is_other f g = not (f.instruction == g.instruction)
@@ -228,12 +298,12 @@ abbrev pub firsts : List StackFrame → List StackFrame
 firsts [] = []
 firsts (f ∷ fs) = f ∷ filter (is_other f) (firsts fs)
 
--- the candidates of a walk with these frames, each return address once and at most so many: those
--- of the words of the first frame below its record, and then those from the last frame's stack
--- pointer on
-abbrev pub scan : StackValue → List StackFrame → ℕ → List StackFrame
-scan s frames limit = take limit (firsts (word_candidates s (words_below s frames)
-    ++ word_candidates s (words_above s frames)))
+-- the candidates of a walk with this link register and these frames, each return address once and at
+-- most so many: that of the link register, those of the words of the first frame below its record,
+-- and then those from the last frame's stack pointer on
+abbrev pub scan : StackValue → Option ℕ → List StackFrame → ℕ → List StackFrame
+scan s link frames limit = take limit (firsts ((cons_option (link_candidate s link frames) []
+    ++ word_candidates s (words_below s frames)) ++ word_candidates s (words_above s frames)))
 
 -- ---- both
 
@@ -243,4 +313,4 @@ pub record AreFrames (s : StackValue) (c : MinidumpContext) (limit : ℕ)
   pub walk : List StackFrame
   pub last : StackFrame
   pub is_walk : IsWalk s (context_frame c) walk last
-  pub whole : frames ≡ walk ++ scan s walk limit
+  pub whole : frames ≡ walk ++ scan s (link_in c) walk limit

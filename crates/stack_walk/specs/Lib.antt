@@ -1,4 +1,5 @@
 -- The definitions that the contracts cite.
+pub mod Addresses
 pub mod Lookups
 pub mod Calls
 pub mod Frames

@@ -12,6 +12,7 @@ use Rattle.minidump.specs.Below.MemoryLists.UnifiedInfo.{region_is_executable}
 use Rattle.minidump.specs.Below.Modules.Module.{ModuleValue, range_of_module}
 use Rattle.stack_walk.specs.declared.frame.FrameTrust.{FrameTrust}
 use Rattle.stack_walk.specs.declared.frame.FrameTrust.TheVariants.{Context, Cfi, FramePointer, Scan}
+use Rattle.stack_walk.specs.declared.frame.FrameTrust.TheVariants.{Link}
 use Rattle.stack_walk.specs.declared.frame.StackFrame.{StackFrame}
 
 -- where a return address returns to: on ARM of 32 bits its bit 0 only says that the code there is Thumb
@@ -32,6 +33,7 @@ lookup_by processor Context address = Some address
 lookup_by processor Cfi address = call_site processor address
 lookup_by processor FramePointer address = call_site processor address
 lookup_by processor Scan address = call_site processor address
+lookup_by processor Link address = call_site processor address
 
 -- the same of a frame
 abbrev pub lookup_address : Cpu → StackFrame → Option ℕ

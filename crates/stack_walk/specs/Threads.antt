@@ -21,13 +21,15 @@ use Rattle.stack_walk.specs.declared.thread.Process.{Process}
 use Rattle.stack_walk.specs.Frames.{StackValue, stack_pointer_in}
 use Rattle.stack_walk.specs.Walk.{WalkValue, all_frames, walk_in}
 
--- a process: its system, the exception, the modules, the memory, and what is known of its regions
+-- a process: its system, the exception, the modules, the memory, what is known of its regions, and
+-- how many of the low bits of a return address are its address
 pub record ProcessValue : Type 0 where
   pub system : System
   pub exception : Option Exception
   pub modules : List ModuleValue
   pub memory : UnifiedRegions
   pub infos : List InfoRegion
+  pub code_bits : ℕ
 
 -- the process of a `Process`, as its streams have it
 abbrev pub process_of : Process → ProcessValue
@@ -37,6 +39,7 @@ process_of p = record {
   modules = module_list_stream.value p.modules.now;
   memory = unified_list p.memory.now;
   infos = info_regions (info_list p.infos.now);
+  code_bits = p.code_bits;
 }
 
 -- the context of the exception, where it happened on the thread with an id
@@ -73,6 +76,7 @@ stack_in p region = record {
   infos = p.infos;
   cpu = p.system.cpu;
   width = width_of p.system.cpu;
+  code_bits = p.code_bits;
 }
 
 -- the walk of a context of a thread, all of whose registers are valid

@@ -8,7 +8,7 @@ use Rattle.minidump.specs.Below.MemoryLists.Unified.{UnifiedRegion}
 use Rattle.stack_walk.specs.declared.end.WalkEnd.{WalkEnd}
 use Rattle.stack_walk.specs.declared.frame.StackFrame.{StackFrame}
 use Rattle.stack_walk.specs.declared.walk.Walk.{Walk}
-use Rattle.stack_walk.specs.Frames.{StackValue, caller_of, context_frame, scan}
+use Rattle.stack_walk.specs.Frames.{StackValue, caller_of, context_frame, link_in, scan}
 use Rattle.stack_walk.specs.WalkEnd.{walk_end}
 
 -- whether the frame pointer of a frame is this address
@@ -66,7 +66,7 @@ abbrev pub walk_in : StackValue → MinidumpContext → ℕ → WalkValue
 walk_in s c limit =
     let callers = callers_in s (context_frame c) in record {
       frames = context_frame c ∷ callers;
-      candidates = scan s (context_frame c ∷ callers) limit;
+      candidates = scan s (link_in c) (context_frame c ∷ callers) limit;
       end = walk_end s (outermost (context_frame c) callers);
     }
 

@@ -1,5 +1,5 @@
 -- Why the last frame of a walk has no caller.
-use Rattle.std.specs.Prelude.{ℕ, ◌+◌, ◌*◌, ◌^◌, ◌==◌, ◌&&◌, Bool, is_none, is_some, nat_lt}
+use Rattle.std.specs.Prelude.{ℕ, ◌+◌, ◌*◌, ◌==◌, ◌&&◌, Bool, is_none, is_some, nat_lt}
 use Rattle.std.specs.Prelude.{if◌then◌else◌}
 use Rattle.std.specs.Option.{option_map_or}
 use Rattle.minidump.specs.Below.System.Cpu.{pointer_bytes}
@@ -8,11 +8,12 @@ use Rattle.stack_walk.specs.declared.end.WalkEnd.TheVariants.{NoMemory, UnknownW
 use Rattle.stack_walk.specs.declared.end.WalkEnd.TheVariants.{NoFramePointer, ZeroFramePointer}
 use Rattle.stack_walk.specs.declared.end.WalkEnd.TheVariants.{BelowStackPointer, NoRecord, NoCode}
 use Rattle.stack_walk.specs.declared.frame.StackFrame.{StackFrame}
+use Rattle.stack_walk.specs.Addresses.{address_after}
 use Rattle.stack_walk.specs.Frames.{StackValue, pointer_at}
 
--- whether a stack holds both words of a record at an address, which ends below 2^64
+-- whether a stack holds both words of a record at an address, and an address lies after it
 abbrev pub has_record : StackValue → ℕ → ℕ → Bool
-has_record s size address = nat_lt (address + 2 * size) (2 ^ 64)
+has_record s size address = is_some (address_after s.width address (2 * size))
     && (is_some (pointer_at s address) && is_some (pointer_at s (address + size)))
 
 -- why a frame with this frame pointer has no caller

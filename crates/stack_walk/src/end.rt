@@ -2,6 +2,7 @@ ghost use Rattle.std.specs.Prelude.{◌≡◌};
 ghost use Rattle.stack_walk.specs.Frames.{stack_of};
 ghost use Rattle.stack_walk.specs.WalkEnd.{has_record, walk_end};
 
+use crate::addresses::address_after;
 use crate::{Stack, StackFrame};
 
 /// Why the last frame of a walk has no caller by its frame pointer: the first of these that holds.
@@ -19,10 +20,10 @@ pub enum WalkEnd {
     /// none, or leads to another stack, as from that of a handler to the interrupted one.
     BelowStackPointer,
     /// The memory of the stack doesn't hold both words of the frame record, or the record ends at
-    /// 2^64 or beyond.
+    /// 2^64 or beyond, where an address has 32 bits at 2^32 or beyond.
     NoRecord,
     /// The return address is 0, or no kept module contains the address below it. On ARM of 32 bits
-    /// bit 0 of the return address is cleared first.
+    /// bit 0 of the return address is cleared first, and on ARM64 the bits that may sign it.
     NoCode,
 }
 
@@ -52,16 +53,16 @@ impl Stack<'_, '_> {
     }
 }
 
-// Tells whether the stack holds both words of a record at an address, which ends below 2^64.
+// Tells whether the stack holds both words of a record at an address, and an address lies after it.
+#[tactic(auto, using(crate::proofs::AddressLemmas::none_after))]
 fn has_record(stack: &Stack<'_, '_>, size: u64, address: u64) -> bool
     ensures { result ≡ has_record (stack_of stack.now) size address }
 {
-    match size.checked_mul(2) {
-        Some(both) => {
-            address.checked_add(both).is_some()
-                && stack.word_at(address).is_some()
-                && stack.word_at(address + size).is_some()
-        }
+    let Some(both) = size.checked_mul(2) else {
+        return false;
+    };
+    match address_after(stack.width, address, both) {
+        Some(_) => stack.word_at(address).is_some() && stack.word_at(address + size).is_some(),
         None => false,
     }
 }

@@ -21,16 +21,20 @@ pub enum FrameTrust {
     FramePointer,
     /// A word of the stack that may be a return address.
     Scan,
+    /// The link register of the context: the return address of a function that hasn't saved it. Such a
+    /// frame is a candidate, never one of the walk itself.
+    Link,
 }
 
 /// A frame of a stack.
 #[derive(Clone, Copy, PartialEq, Eq)]
 pub struct StackFrame {
     /// The instruction pointer of the context, or else the return address by which the frame was
-    /// found.
+    /// found, on ARM64 without the bits that may sign it.
     pub instruction: u64,
     /// The stack pointer, as the context or the rules give it. A frame by a frame pointer or by a
-    /// scan has the address after its return address, the lowest that its stack pointer can be.
+    /// scan has the address after its return address, and that of the link register has the stack
+    /// pointer of the context: the lowest that its stack pointer can be.
     pub stack_pointer: u64,
     /// The frame pointer, as the context, the rules or the frame record give it, or `None` if it
     /// isn't known.
@@ -49,9 +53,9 @@ impl StackFrame {
     {
         match self.trust {
             FrameTrust::Context => Some(self.instruction),
-            FrameTrust::Cfi | FrameTrust::FramePointer | FrameTrust::Scan => {
+            FrameTrust::Cfi | FrameTrust::FramePointer | FrameTrust::Scan | FrameTrust::Link => {
                 call_site(cpu, self.instruction)
-            },
+            }
         }
     }
 
@@ -79,15 +83,15 @@ impl StackFrame {
     }
 
     /// Returns the address in the stack at which the frame's return address stands, that of the
-    /// word below its stack pointer. Returns `None` for [`FrameTrust::Context`] and
-    /// [`FrameTrust::Cfi`], if the width of an address is unknown, or if the stack pointer is less
-    /// than that width.
+    /// word below its stack pointer. Returns `None` for [`FrameTrust::Context`],
+    /// [`FrameTrust::Cfi`] and [`FrameTrust::Link`], if the width of an address is unknown, or if the
+    /// stack pointer is less than that width.
     pub fn evidence(&self, width: PointerWidth) -> Option<u64>
         ensures { result ≡ evidence_address width self.now }
     {
         let size = width.size_in_bytes()?;
         match self.trust {
-            FrameTrust::Context | FrameTrust::Cfi => None,
+            FrameTrust::Context | FrameTrust::Cfi | FrameTrust::Link => None,
             FrameTrust::FramePointer | FrameTrust::Scan => {
                 self.stack_pointer.checked_sub(size as u64)
             }

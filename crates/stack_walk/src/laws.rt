@@ -1,11 +1,11 @@
 //! Laws of frames, over the definitions that the contract of [`crate::frames`] names.
 ghost use Rattle.std.specs.Prelude.{◌≡◌, ◌↔◌, ◌≤◌, ◌+◌, ◌-◌, ◌*◌, ◌==◌, ℕ, All, Contains, List, ◌∷◌};
-ghost use Rattle.std.specs.Prelude.{Some, length, map, slice_get};
+ghost use Rattle.std.specs.Prelude.{Option, Some, length, map, slice_get};
 ghost use Rattle.std.specs.List.{IsDistinct};
 ghost use Rattle.minidump.specs.declared.MinidumpContext.{MinidumpContext};
 ghost use Rattle.minidump.specs.Below.Bytes.Exact.{IsExact};
 ghost use Rattle.minidump.specs.Below.System.Cpu.{pointer_bytes};
-ghost use Rattle.stack_walk.specs.Evidence.{HasEvidence};
+ghost use Rattle.stack_walk.specs.Evidence.{IsShown};
 ghost use Rattle.minidump.specs.Below.Contexts.Context.{registers_of, value_in};
 ghost use Rattle.minidump.specs.declared.MinidumpRawContext.{MinidumpRawContext};
 ghost use Rattle.stack_walk.specs.Frames.{AreFrames, StackValue, instruction_pointer_in, scan, stack_bytes};
@@ -33,11 +33,13 @@ pub fn a_context_has_both_pointers()
         ≡ Some (stack_pointer_in raw) }
 {}
 
-/// Each frame but the first has its evidence.
+/// Each frame but the first has its evidence: the word right below its stack pointer is its return
+/// address, or it is of [`FrameTrust::Link`] and the link register of the context is. On ARM64 the
+/// word or the register may have bits that sign the address.
 pub fn each_caller_has_its_evidence()
     ensures { (s : StackValue) (c : MinidumpContext) (limit : ℕ) (first : StackFrame)
         (rest : List StackFrame)
-        → AreFrames s c limit (first ∷ rest) → All (HasEvidence s) rest }
+        → AreFrames s c limit (first ∷ rest) → All (IsShown s c) rest }
 {}
 
 /// There is at most one caller for every eight bytes of the stack, and beside these the frame of
@@ -52,26 +54,26 @@ pub fn frames_are_few()
 /// stack pointer on, if as many are asked for as the stack has bytes; nor of one of the first frame
 /// below its record, where its caller is by that.
 pub fn each_aligned_word_is_scanned()
-    ensures above { (s : StackValue) (frames : List StackFrame) (last : StackFrame)
-        (limit number size : ℕ) (f : StackFrame)
+    ensures above { (s : StackValue) (link : Option ℕ) (frames : List StackFrame)
+        (last : StackFrame) (limit number size : ℕ) (f : StackFrame)
         → slice_get frames (length frames - 1) ≡ Some last → pointer_bytes s.width ≡ Some size
         → last.stack_pointer ≤ number * size → word_candidate s number ≡ Some f
         → length (stack_bytes s) ≤ limit
-        → Contains (map (λ g. g.instruction) (scan s frames limit)) f.instruction }
-    ensures below { (s : StackValue) (first caller : StackFrame) (callers : List StackFrame)
-        (record_address limit number size : ℕ) (f : StackFrame)
+        → Contains (map (λ g. g.instruction) (scan s link frames limit)) f.instruction }
+    ensures below { (s : StackValue) (link : Option ℕ) (first caller : StackFrame)
+        (callers : List StackFrame) (record_address limit number size : ℕ) (f : StackFrame)
         → caller.trust ≡ FramePointer → first.frame_pointer ≡ Some record_address
         → pointer_bytes s.width ≡ Some size → first.stack_pointer ≤ number * size
         → number * size + size ≤ record_address → word_candidate s number ≡ Some f
         → length (stack_bytes s) ≤ limit
-        → Contains (map (λ g. g.instruction) (scan s (first ∷ caller ∷ callers) limit))
+        → Contains (map (λ g. g.instruction) (scan s link (first ∷ caller ∷ callers) limit))
         f.instruction }
 {}
 
 /// No two candidates of a walk have the same return address.
 pub fn each_return_address_is_once()
-    ensures { (s : StackValue) (frames : List StackFrame) (limit : ℕ)
-        → IsDistinct ◌==◌ (map (λ g. g.instruction) (scan s frames limit)) }
+    ensures { (s : StackValue) (link : Option ℕ) (frames : List StackFrame) (limit : ℕ)
+        → IsDistinct ◌==◌ (map (λ g. g.instruction) (scan s link frames limit)) }
 {}
 
 /// A frame equals the same frame alone, and a clone of it is the same frame. The same holds of how

@@ -3,7 +3,7 @@
 //! - The first frame is that of the thread's context: [`FrameTrust::Context`].
 //! - Its callers follow by frame pointers: [`FrameTrust::FramePointer`].
 //! - Words of the stack that may be return addresses, and that no record leads to, are candidates:
-//!   [`FrameTrust::Scan`].
+//!   [`FrameTrust::Scan`]. On ARM and ARM64 so is the link register: [`FrameTrust::Link`].
 //!
 //! [`walk_stack`] finds them by a context and a [`Stack`], [`walk_thread`] those of a thread, by what
 //! a dump has of its [`Process`]; [`frames`] and [`thread_frames`] return them in one list. A walk
@@ -21,7 +21,8 @@
 //!   error, never a shorter list.
 //! - Each context has both pointers: [`laws::a_context_has_both_pointers`].
 //! - Each frame but the first has a return address that stands in the stack right below its stack
-//!   pointer: [`laws::each_caller_has_its_evidence`].
+//!   pointer, or is the link register, on ARM64 with bits that may sign it:
+//!   [`laws::each_caller_has_its_evidence`].
 //! - The walk ends on every stack, and its length is bounded by that of the stack:
 //!   [`laws::frames_are_few`].
 //! - The scan takes the first candidates, as many as are asked for, and leaves out no return address
@@ -39,18 +40,22 @@ ghost use Rattle.std.specs.Prelude.{◌≡◌, IfOk, IsOkUnless};
 ghost use Rattle.stack_walk.specs.Frames.{AreFrames, stack_of};
 ghost use Rattle.stack_walk.specs.Walk.{frames_in};
 
+mod addresses;
 mod calls;
 mod end;
 mod frame;
 pub mod laws;
+mod link;
 mod lookups;
 mod scan;
 mod stack;
 mod thread;
 mod walk;
 
+pub use addresses::{code_bits, is_address};
 pub use end::WalkEnd;
 pub use frame::{FrameTrust, StackFrame};
+pub use link::link_of;
 pub use lookups::module_place;
 use minidump::{Error, MinidumpContext};
 pub use stack::Stack;
@@ -65,20 +70,27 @@ pub use walk::{Walk, walk_stack};
 ///   the stack: the saved frame pointer, and the return address, which a kept module contains. A
 ///   record lies at or above the stack pointer of its frame, which for a caller is the address
 ///   after the record that leads to it. The last frame is the one whose frame pointer leads to no
-///   record. Bits by which ARM64 authenticates a return address are kept.
+///   record.
 /// - A candidate is an aligned word that may be a return address: a kept module contains it, past its
 ///   first page, which has the module's headers; the memory there may be run, as far as is known of
 ///   it; and on x86, x86-64 and ARM64 a call ends before it, as far as the dump has these bytes.
+/// - The link register of ARM and ARM64 is a candidate, too, and the first: the return address of a
+///   function that hasn't saved it, as one that calls no other. A kept module contains it, also in
+///   its first page, the memory there may be run, and a call ends before it, as for a word. It is none
+///   if it is the return address by which the first caller was found. No walk goes on from it, since
+///   the register may be left from an earlier call.
 /// - The words from the last frame's stack pointer on are looked at, and before them those of the
 ///   first frame below its record, if it has a caller: the frame pointer of a function without a
 ///   record of its own is that of a caller further out, and the return addresses of the callers
 ///   between them stand there.
-/// - Of words that hold the same return address only the lowest is a candidate, and `limit` counts
-///   no other. [`Stack::candidates`] finds the candidates in one pass over these words, and looks
-///   each up among the return addresses that it has.
+/// - Of words that hold the same return address only the lowest is a candidate, and none if that of
+///   the link register is it. `limit` counts no other. [`Stack::candidates`] finds the candidates in
+///   one pass over these words, and looks each up among the return addresses that it has.
 ///
 /// A module contains a return address if it contains the address below it, which lies in the call.
-/// On ARM of 32 bits bit 0 of the return address is cleared first. The only error is `OutOfMemory`.
+/// On ARM of 32 bits bit 0 of the return address is cleared first. On ARM64, whose functions may sign
+/// a return address, a word of the stack and the link register are read without the bits above those
+/// of [`code_bits`], and the frame has the address that is left. The only error is `OutOfMemory`.
 pub fn frames(
     alloc: Global,
     stack: &Stack<'_, '_>,

@@ -3,6 +3,7 @@ ghost use Rattle.std.specs.Prelude.{◌≡◌, ◌+◌, ◌++◌, ◌∷◌, [],
 ghost use Rattle.std.specs.Prelude.{IfOk, OnOk};
 ghost use Rattle.std.specs.BTreeMap.{is_at};
 ghost use Rattle.std.specs.BTreeSet.{contains};
+ghost use Rattle.std.specs.List.{cons_option};
 ghost use Rattle.std.specs.Ordering.{nat_cmp};
 ghost use Rattle.stack_walk.specs.declared.frame.StackFrame.{StackFrame};
 ghost use Rattle.stack_walk.specs.Found.{AreFound};
@@ -11,7 +12,9 @@ ghost use Rattle.stack_walk.specs.Frames.{record_by, scan, stack_of, word_candid
 ghost use Rattle.stack_walk.specs.Frames.{word_candidates, words_above, words_below};
 ghost use Rattle.stack_walk.specs.Frames.{words_between, words_from};
 
+use crate::addresses::address_after;
 use crate::calls::may_end_call;
+use crate::link::link_candidate;
 use crate::lookups::{call_site, is_past_headers, may_be_run};
 use crate::{FrameTrust, Stack, StackFrame};
 use minidump::system_info::PointerWidth;
@@ -28,22 +31,26 @@ impl Stack<'_, '_> {
         candidate_of(self, size as u64, address)
     }
 
-    /// Returns at most `limit` candidates of a walk with these frames, each return address once, by
-    /// the lowest word that holds it: of the aligned words of the first frame below its record, if
-    /// its caller is by that, and then of those from the last frame's stack pointer on. The only
-    /// error is that no memory is left.
+    /// Returns at most `limit` candidates of a walk with these frames, from a context with this link
+    /// register ([`link_of`](crate::link_of)). Each return address is there once: by the link
+    /// register, if the walk may lack its caller; else by the lowest word that holds it, of the
+    /// aligned words of the first frame below its record, if its caller is by that, and then of those
+    /// from the last frame's stack pointer on. The only error is that no memory is left.
     pub fn candidates(
         &self,
         alloc: Global,
         frames: &[StackFrame],
+        link: Option<u64>,
         limit: usize,
     ) -> Result<Vec<StackFrame>, AllocError>
-        ensures { IfOk result (λ found. found.items ≡ scan (stack_of self.now) frames.now limit) }
+        ensures { IfOk result
+            (λ found. found.items ≡ scan (stack_of self.now) link frames.now limit) }
     {
         let mut found = Found {
             frames: Vec::new(alloc),
             seen: BTreeSet::new(alloc),
         };
+        found.add_link(link_candidate(self, link, frames), limit)?;
         found.add_words(self, words_below(self, frames), limit)?;
         found.add_words(self, words_above(self, frames), limit)?;
         Ok(found.frames)
@@ -58,6 +65,20 @@ struct Found {
 }
 
 impl Found {
+    // Adds the candidate of the link register, if there is one, up to a limit of all.
+    fn add_link(&mut self, candidate: Option<StackFrame>, limit: usize) -> Result<(), AllocError>
+        ensures { OnOk result ((before : List StackFrame) → AreFound limit before self.old
+            → AreFound limit (before ++ cons_option candidate []) self.new) }
+    {
+        if self.frames.len() >= limit {
+            return Ok(());
+        }
+        if let Some(candidate) = candidate {
+            self.add(candidate)?;
+        }
+        Ok(())
+    }
+
     // Adds the candidates of aligned words, by the number of the first and how many there are, up
     // to a limit of all.
     fn add_words(
@@ -120,7 +141,7 @@ fn record_by(trust: FrameTrust, frame: &StackFrame) -> Option<u64>
 {
     match trust {
         FrameTrust::FramePointer => frame.frame_pointer,
-        FrameTrust::Context | FrameTrust::Cfi | FrameTrust::Scan => None,
+        FrameTrust::Context | FrameTrust::Cfi | FrameTrust::Scan | FrameTrust::Link => None,
     }
 }
 
@@ -168,7 +189,7 @@ fn words_from(stack: &Stack<'_, '_>, from: u64) -> (u64, usize)
 // ---- the candidate of a word
 
 // Returns the candidate of the aligned word that so many words come before.
-#[tactic(auto, unfolding(crate::specs::Frames::word_candidate))]
+#[tactic(auto, using(crate::proofs::AddressLemmas::none_after), unfolding(crate::specs::Frames::word_candidate))]
 fn word_candidate(stack: &Stack<'_, '_>, first: u64, index: usize) -> Option<StackFrame>
     ensures { result ≡ word_candidate (stack_of stack.now) (first + index) }
 {
@@ -181,12 +202,12 @@ fn word_candidate(stack: &Stack<'_, '_>, first: u64, index: usize) -> Option<Sta
 fn candidate_of(stack: &Stack<'_, '_>, size: u64, address: u64) -> Option<StackFrame>
     ensures { result ≡ candidate_at (stack_of stack.now) size address }
 {
-    let stack_pointer = address.checked_add(size)?;
-    let word = stack.word_at(address)?;
-    let call = call_site(stack.cpu, word)?;
+    let stack_pointer = address_after(stack.width, address, size)?;
+    let instruction = stack.return_at(address)?;
+    let call = call_site(stack.cpu, instruction)?;
     if may_have_called(stack, call) {
         Some(StackFrame {
-            instruction: word,
+            instruction,
             stack_pointer,
             frame_pointer: None,
             trust: FrameTrust::Scan,

@@ -1,6 +1,8 @@
 ghost use Rattle.std.specs.Prelude.{◌≡◌};
-ghost use Rattle.stack_walk.specs.Frames.{caller_at, caller_of, pointer_at, stack_of};
+ghost use Rattle.stack_walk.specs.Addresses.{unsigned};
+ghost use Rattle.stack_walk.specs.Frames.{caller_at, caller_of, pointer_at, return_at, stack_of};
 
+use crate::addresses::address_after;
 use crate::lookups::{call_site, is_code};
 use crate::{FrameTrust, StackFrame};
 use minidump::system_info::{Cpu, PointerWidth};
@@ -21,6 +23,9 @@ pub struct Stack<'l, 'a> {
     pub cpu: Cpu,
     /// The width of an address.
     pub width: PointerWidth,
+    /// How many of the low bits of a return address are its address, as
+    /// [`code_bits`](crate::code_bits) returns it. With another number callers are lost.
+    pub code_bits: u32,
 }
 
 impl Stack<'_, '_> {
@@ -40,6 +45,26 @@ impl Stack<'_, '_> {
         }
     }
 
+    /// Returns the address of a word that is read as a return address: the word without the bits by
+    /// which ARM64 may sign it.
+    #[tactic(auto, using(crate::proofs::AddressLemmas::all_bits))]
+    pub fn return_address(&self, word: u64) -> u64
+        ensures { result ≡ unsigned (stack_of self.now).code_bits word }
+    {
+        match 1u64.checked_shl(self.code_bits) {
+            Some(limit) => word % limit,
+            None => word,
+        }
+    }
+
+    // Returns the return address that the stack holds at an address.
+    pub(crate) fn return_at(&self, address: u64) -> Option<u64>
+        ensures { result ≡ return_at (stack_of self.now) address }
+    {
+        let word = self.word_at(address)?;
+        Some(self.return_address(word))
+    }
+
     /// Returns the caller of a frame by its frame pointer, or `None` if that leads to no record, or
     /// the return address there lies in no kept module.
     pub fn caller_of(&self, frame: &StackFrame) -> Option<StackFrame>
@@ -55,13 +80,13 @@ impl Stack<'_, '_> {
 }
 
 // Returns the frame to which the record at an address returns.
-#[tactic(auto, unfolding(crate::specs::Frames::caller_at))]
+#[tactic(auto, using(crate::proofs::AddressLemmas::none_after), unfolding(crate::specs::Frames::caller_at))]
 fn caller_at(stack: &Stack<'_, '_>, size: u64, address: u64) -> Option<StackFrame>
     ensures { result ≡ caller_at (stack_of stack.now) size address }
 {
-    let stack_pointer = address.checked_add(size.checked_mul(2)?)?;
+    let stack_pointer = address_after(stack.width, address, size.checked_mul(2)?)?;
     let saved = stack.word_at(address)?;
-    let instruction = stack.word_at(address + size)?;
+    let instruction = stack.return_at(address + size)?;
     if is_code(stack.modules, call_site(stack.cpu, instruction)?) {
         Some(StackFrame {
             instruction,

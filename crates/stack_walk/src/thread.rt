@@ -31,6 +31,10 @@ pub struct Process<'l, 'a> {
     pub memory: &'l UnifiedMemoryList<'a>,
     /// What is known of the regions of the memory.
     pub infos: &'l UnifiedMemoryInfoList<'a>,
+    /// How many of the low bits of a return address are its address, as
+    /// [`code_bits`](crate::code_bits) returns it for the system and the modules. With another number
+    /// callers are lost.
+    pub code_bits: u32,
 }
 
 /// Walks the stack of a thread, as [`walk_stack`] does with its context and its stack. Returns
@@ -198,6 +202,7 @@ impl<'l, 'a> Process<'l, 'a> {
             infos: self.infos,
             cpu: self.system.cpu,
             width: self.system.cpu.pointer_width(),
+            code_bits: self.code_bits,
         }
     }
 }

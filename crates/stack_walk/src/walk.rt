@@ -2,7 +2,7 @@ ghost use Rattle.std.specs.Prelude.{◌≡◌, ◌∷◌, IfOk, IsOkUnless};
 ghost use Rattle.stack_walk.specs.Frames.{context_frame, frame_register, stack_of};
 ghost use Rattle.stack_walk.specs.Walk.{all_frames, callers_in, outermost, walk_in, walk_of};
 
-use crate::{FrameTrust, Stack, StackFrame, WalkEnd};
+use crate::{FrameTrust, Stack, StackFrame, WalkEnd, link_of};
 use minidump::{Error, MinidumpContext, MinidumpRawContext};
 use std::alloc::{AllocError, Global};
 
@@ -11,8 +11,8 @@ use std::alloc::{AllocError, Global};
 pub struct Walk {
     /// The frame of the context and its callers by frame pointers, the innermost first.
     pub frames: Vec<StackFrame>,
-    /// The candidates: words of the stack that may be return addresses, as [`frames`](crate::frames)
-    /// says.
+    /// The candidates: the link register of the context and words of the stack that may be return
+    /// addresses, as [`frames`](crate::frames) says.
     pub candidates: Vec<StackFrame>,
     /// Why the last frame has no caller.
     pub end: WalkEnd,
@@ -42,7 +42,7 @@ pub fn walk_stack(
     ensures memory { IsOkUnless result Error.OutOfMemory }
 {
     let (frames, last) = climb(alloc, stack, StackFrame::of_context(context))?;
-    let candidates = stack.candidates(alloc, frames.as_slice(), limit)?;
+    let candidates = stack.candidates(alloc, frames.as_slice(), link_of(context), limit)?;
     Ok(Walk {
         frames,
         candidates,

@@ -1,5 +1,5 @@
 -- The caller of a frame stands on the stack, above it, or for a context's frame at it.
-use Rattle.std.proofs.Common.{◌≡◌, ◌∙◌, ◌<◌, ◌≤◌, ◌+◌, ◌-◌, ◌*◌, ◌^◌, ◌∷◌, [], ℕ, List, Option, Some, None, Bool, true, false, ap, length, refl, sym, subst}
+use Rattle.std.proofs.Common.{◌≡◌, ◌∙◌, ◌<◌, ◌≤◌, ◌+◌, ◌-◌, ◌*◌, ◌∷◌, [], ℕ, List, Option, Some, None, Bool, true, false, ap, length, refl, sym, subst}
 use Rattle.std.proofs.Common.{arith, ◌⊎◌, inl, inr}
 use Rattle.std.specs.Prelude.{cond, nat_le, nat_lt, is_some, ◌&&◌, if◌then◌else◌}
 use Rattle.std.specs.List.{cons_option, filter_map, find, range_with_len}
@@ -8,9 +8,10 @@ use Rattle.std.proofs.lemmas.Bool.Decides.{nat_tests}
 use Rattle.minidump.specs.Below.MemoryLists.Unified.{UnifiedRegion}
 use Rattle.minidump.specs.Below.System.Cpu.{pointer_bytes}
 use Rattle.stack_walk.specs.declared.frame.FrameTrust.{FrameTrust}
-use Rattle.stack_walk.specs.declared.frame.FrameTrust.TheVariants.{Context, Cfi, FramePointer, Scan}
+use Rattle.stack_walk.specs.declared.frame.FrameTrust.TheVariants.{Context, Cfi, FramePointer, Scan, Link}
 use Rattle.stack_walk.specs.declared.frame.StackFrame.{StackFrame}
-use Rattle.stack_walk.specs.Frames.{StackValue, candidate_at, candidate_by, may_have_called, pointer_at, word_candidate, word_candidates}
+use Rattle.stack_walk.specs.Addresses.{address_after}
+use Rattle.stack_walk.specs.Frames.{StackValue, candidate_at, candidate_by, may_have_called, return_at, word_candidate, word_candidates}
 use Rattle.stack_walk.specs.Frames.{caller_of as pointer_caller}
 use Rattle.stack_walk.specs.Lookups.{call_site}
 use Rattle.stack_walk.proofs.CallerLemmas.{base_of, climbs, end_of, failed, has_record, passed, step}
@@ -68,18 +69,21 @@ at_least Context a b e = grind (arith, nat_tests, e)
 at_least Cfi a b e = grind (arith, nat_tests, e)
 at_least FramePointer a b e = grind (arith, nat_tests, e)
 at_least Scan a b e = grind (arith, nat_tests, e)
+at_least Link a b e = grind (arith, nat_tests, e)
 
 more_than : (t : FrameTrust) (a b : ℕ) → is_of_context t ≡ false → (if is_of_context t then nat_le a b else nat_lt a b) ≡ true → a < b
 more_than Context a b other e = cc
 more_than Cfi a b other e = grind (arith, nat_tests, e)
 more_than FramePointer a b other e = grind (arith, nat_tests, e)
 more_than Scan a b other e = grind (arith, nat_tests, e)
+more_than Link a b other e = grind (arith, nat_tests, e)
 
 higher : (t : FrameTrust) (a b : ℕ) → a < b → (if is_of_context t then nat_le a b else nat_lt a b) ≡ true
 higher Context a b lt = grind (arith, nat_tests, lt)
 higher Cfi a b lt = grind (arith, nat_tests, lt)
 higher FramePointer a b lt = grind (arith, nat_tests, lt)
 higher Scan a b lt = grind (arith, nat_tests, lt)
+higher Link a b lt = grind (arith, nat_tests, lt)
 
 -- the caller stands at the stack pointer of its frame or above it
 pub not_below : (u : UnwinderValue) (f g : StackFrame) → Reached u f g → f.stack_pointer ≤ g.stack_pointer
@@ -197,34 +201,32 @@ found_passes P test (x ∷ xs) y each e = by (test x) refl e (found_passes P tes
 abbrev IsScanned : StackFrame → Type 0
 IsScanned f = f.trust ≡ Scan
 
-by_word : (s : StackValue) (after word : ℕ) (f : StackFrame) → candidate_by s after word ≡ Some f → IsScanned f
-by_word s after word f e =
+by_return : (s : StackValue) (after address : ℕ) (f : StackFrame) → candidate_by s after address ≡ Some f → IsScanned f
+by_return s after address f e =
     let call =
     step (λ call. if may_have_called s call
-    then Some (record { instruction = word; stack_pointer = after; frame_pointer = None; trust = Scan })
-    else None) (call_site s.cpu word) f e
+    then Some (record { instruction = address; stack_pointer = after; frame_pointer = None; trust = Scan })
+    else None) (call_site s.cpu address) f e
     in
     let code =
     passed (may_have_called s call.0)
-    (Some (record { instruction = word; stack_pointer = after; frame_pointer = None; trust = Scan })) f call.2
+    (Some (record { instruction = address; stack_pointer = after; frame_pointer = None; trust = Scan })) f call.2
     in
     let same : ◌≡◌ {A = Option StackFrame}
-    (Some (record { instruction = word; stack_pointer = after; frame_pointer = None; trust = Scan })) (Some f) =
+    (Some (record { instruction = address; stack_pointer = after; frame_pointer = None; trust = Scan })) (Some f) =
     code.1
     in
-    let is : ◌≡◌ {A = StackFrame} (record { instruction = word; stack_pointer = after; frame_pointer = None; trust = Scan }) f = cc in
+    let is : ◌≡◌ {A = StackFrame} (record { instruction = address; stack_pointer = after; frame_pointer = None; trust = Scan }) f = cc in
     sym (ap (λ (x : StackFrame). x.trust) is)
 
 of_number : (s : StackValue) (number : ℕ) (f : StackFrame) → word_candidate s number ≡ Some f → IsScanned f
 unfolding word_candidate
 of_number s number f e =
     let size = step (λ size. candidate_at s size (number * size)) (pointer_bytes s.width) f e in
-    let low =
-    passed (nat_lt (number * size.0 + size.0) (2 ^ 64))
-    (option_and_then (candidate_by s (number * size.0 + size.0)) (pointer_at s (number * size.0))) f size.2
-    in
-    let word = step (candidate_by s (number * size.0 + size.0)) (pointer_at s (number * size.0)) f low.1 in
-    by_word s (number * size.0 + size.0) word.0 f word.2
+    let address = number * size.0 in
+    let after = step (λ after. option_and_then (candidate_by s after) (return_at s address)) (address_after s.width address size.0) f size.2 in
+    let returned = step (candidate_by s after.0) (return_at s address) f after.2 in
+    by_return s after.0 returned.0 f returned.2
 
 each_scanned : (s : StackValue) (words : ℕ × ℕ) → Each IsScanned (word_candidates s words)
 each_scanned s words = each_given IsScanned (word_candidate s) (of_number s) (range_with_len words.0 words.1)
@@ -299,6 +301,7 @@ shorter Context a b end low high more = omega (arith, low, high)
 shorter Cfi a b end low high more = omega (arith, more refl, high)
 shorter FramePointer a b end low high more = omega (arith, more refl, high)
 shorter Scan a b end low high more = omega (arith, more refl, high)
+shorter Link a b end low high more = omega (arith, more refl, high)
 
 -- it is less after the caller
 pub falls : (u : UnwinderValue) (f g : FrameValue) → caller_of u f ≡ Some g → left u g < left u f

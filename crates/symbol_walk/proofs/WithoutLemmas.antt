@@ -7,7 +7,7 @@ use Rattle.minidump.specs.declared.MinidumpContext.{MinidumpContext}
 use Rattle.minidump.specs.Below.Modules.Module.{ModuleValue}
 use Rattle.minidump.specs.Below.System.Cpu.{pointer_bytes}
 use Rattle.stack_walk.specs.declared.frame.StackFrame.{StackFrame}
-use Rattle.stack_walk.specs.Frames.{StackValue, scan, word_candidates}
+use Rattle.stack_walk.specs.Frames.{StackValue, link_in, scan, word_candidates}
 use Rattle.stack_walk.specs.Frames.{AreCallers as ArePointerCallers}
 use Rattle.stack_walk.specs.Frames.{caller_of as pointer_caller}
 use Rattle.stack_walk.specs.Lookups.{lookup_address, module_place}
@@ -154,7 +154,7 @@ same_frames s symbols c limit none = (pointers_alone (by_context s symbols c) (f
 pub same_candidates : (s : StackValue) (symbols : List (Option SymbolsValue)) (c : MinidumpContext) (limit : ℕ) → HaveNone symbols
     → (symbol_walk_in s symbols c limit).candidates ≡ (walk_in s c limit).candidates
 same_candidates s symbols c limit none =
-    ap (λ (fs : List StackFrame). scan s fs limit) (pointers_alone (by_context s symbols c) (first_frame c) none).0
+    ap (λ (fs : List StackFrame). scan s (link_in c) fs limit) (pointers_alone (by_context s symbols c) (first_frame c) none).0
 
 pub same_end : (s : StackValue) (symbols : List (Option SymbolsValue)) (c : MinidumpContext) (limit : ℕ) → HaveNone symbols
     → (symbol_walk_in s symbols c limit).end ≡ Walk (walk_in s c limit).end

@@ -7,6 +7,7 @@ use Rattle.minidump.specs.declared.system_info.PointerWidth.TheVariants.{Bits32,
 use Rattle.stack_walk.specs.declared.frame.FrameTrust.{FrameTrust}
 use Rattle.stack_walk.specs.declared.frame.FrameTrust.TheVariants.{Context, Cfi}
 use Rattle.stack_walk.specs.declared.frame.StackFrame.{StackFrame}
+use Rattle.stack_walk.specs.Addresses.{unsigned}
 use Rattle.stack_walk.specs.Frames.{StackValue, pointer_at, stack_of}
 use Rattle.stack_walk.specs.Lookups.{lookup_address}
 use Rattle.breakpad_symbols.specs.AddressWidth.{bits_of}
@@ -51,12 +52,14 @@ state_of s = state_in (stack_of s.stack.now) (map row_of s.table.now) (map known
     (bits_of s.width)
 
 -- the rules of a frame: the unwind information, the offset in the module at which it is read, the
--- known registers of the frame, and what rules refer to
+-- known registers of the frame, what rules refer to, and how many of the low bits of a return address
+-- are its address
 pub record RulesValue : Type 0 where
   pub cfi : CfiValue
   pub offset : ℕ
   pub known : List (List ℕ × ℕ)
   pub state : StateValue
+  pub code_bits : ℕ
 
 -- the rules of a `Rules`
 abbrev pub rules_of : Rules → RulesValue
@@ -65,6 +68,7 @@ rules_of r = record {
   offset = r.offset;
   known = map known_of r.state.known.now;
   state = state_of r.state;
+  code_bits = (stack_of r.state.stack.now).code_bits;
 }
 
 -- those that the symbols of the module have for an address
@@ -75,6 +79,7 @@ rules_by u f bits address = option_and_then
       offset = p.1;
       known = f.registers;
       state = state_in u.stack u.registers f.registers bits;
+      code_bits = u.stack.code_bits;
     }) (cfi_at p.0 p.1)) (symbols_at u.stack.modules u.symbols address)
 
 -- the rules of a frame: those of the address by which it is looked up
@@ -84,10 +89,11 @@ rules_at u f = option_and_then (λ bits. option_and_then (rules_by u f bits)
 
 -- ---- where they return to
 
--- the canonical frame address and the return address, where rules have a value for both
+-- the canonical frame address, and the return address without the bits that may sign it, where rules
+-- have a value for both
 unfoldable pub returns : RulesValue → Option Return
 returns r = option_and_then (λ frame. option_map
-    (λ address. record { frame_address = frame; return_address = address })
+    (λ word. record { frame_address = frame; return_address = unsigned r.code_bits word })
     (caller_register_at r.state r.cfi r.offset frame (codes ".ra")))
     (frame_address_at r.state r.cfi r.offset)
 

@@ -6,7 +6,7 @@ use Rattle.std.specs.Option.{option_and_then, option_map, option_map_or, option_
 use Rattle.minidump.specs.declared.MinidumpContext.{MinidumpContext}
 use Rattle.minidump.specs.Below.MemoryLists.Unified.{UnifiedRegion}
 use Rattle.stack_walk.specs.declared.frame.StackFrame.{StackFrame}
-use Rattle.stack_walk.specs.Frames.{StackValue, scan}
+use Rattle.stack_walk.specs.Frames.{StackValue, link_in, scan}
 use Rattle.stack_walk.specs.Frames.{caller_of as pointer_caller}
 use Rattle.stack_walk.specs.WalkEnd.{walk_end}
 use Rattle.breakpad_symbols.specs.SymbolFile.{SymbolsValue}
@@ -95,13 +95,13 @@ symbol_walk_of w = record {
 abbrev pub plain_frames : List FrameValue → List StackFrame
 plain_frames frames = map (λ f. f.frame) frames
 
--- the walk from a frame: it and its callers, the candidates of these, at most so many, and why there
--- is no further caller
-abbrev pub walk_from : UnwinderValue → FrameValue → ℕ → SymbolWalkValue
-walk_from u first limit =
+-- the walk from a frame with this link register: it and its callers, the candidates of these, at most
+-- so many, and why there is no further caller
+abbrev pub walk_from : UnwinderValue → FrameValue → Option ℕ → ℕ → SymbolWalkValue
+walk_from u first link limit =
     let callers = callers_in u first in record {
       frames = first ∷ callers;
-      candidates = scan u.stack (plain_frames (first ∷ callers)) limit;
+      candidates = scan u.stack link (plain_frames (first ∷ callers)) limit;
       end = end_of u (outermost first callers);
     }
 
@@ -109,4 +109,4 @@ walk_from u first limit =
 abbrev pub symbol_walk_in : StackValue → List (Option SymbolsValue) → MinidumpContext → ℕ → SymbolWalkValue
 symbol_walk_in s symbols c limit =
     walk_from (record { stack = s; symbols = symbols; registers = register_table c.raw })
-    (first_frame c) limit
+    (first_frame c) (link_in c) limit

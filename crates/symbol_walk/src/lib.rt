@@ -19,8 +19,9 @@
 //!
 //! The rules of a frame are those that its module's symbols have for the address by which it is
 //! looked up ([`StackFrame::lookup_address`]). They refer to the known registers, and to the words
-//! of the stack. `.ra` gives the instruction pointer of the caller, and `.cfa` its stack pointer,
-//! unless the stack pointer has a rule of its own. Each other register has the value of its rule.
+//! of the stack. `.ra` gives the instruction pointer of the caller, on ARM64 without the bits that
+//! may sign it, and `.cfa` its stack pointer, unless the stack pointer has a rule of its own. Each
+//! other register has the value of its rule.
 //! Without a rule, a register that functions keep for their callers has its value in the callee,
 //! and any other isn't known.
 //!
@@ -31,9 +32,10 @@
 //!
 //! # The candidates
 //!
-//! They are those that [`stack_walk`] has for these frames: of the words from the last frame's stack
-//! pointer on, and, where the caller of the first frame is by its frame pointer, of those of the first
-//! frame below its record. Where rules say where the caller stands, no word of the frame is one.
+//! They are those that [`stack_walk`] has for these frames and the link register of the context: that
+//! register, of the words from the last frame's stack pointer on, and, where the caller of the first
+//! frame is by its frame pointer, of those of the first frame below its record. Where rules say where the
+//! caller stands, neither the register nor a word of the frame is one.
 //!
 //! [`StackFrame::lookup_address`]: stack_walk::StackFrame::lookup_address
 //!

@@ -34,6 +34,7 @@ pub(crate) struct Rules<'f, 'l, 'a, 's> {
 pub(crate) struct Return {
     // the canonical frame address
     pub(crate) frame_address: u64,
+    // without the bits that may sign it
     pub(crate) return_address: u64,
 }
 
@@ -87,12 +88,12 @@ impl Rules<'_, '_, '_, '_> {
         let found = self
             .cfi
             .caller_register(alloc, self.offset, &self.state, frame_address, b".ra")?;
-        let Some(return_address) = found else {
+        let Some(word) = found else {
             return Ok(None);
         };
         Ok(Some(Return {
             frame_address,
-            return_address,
+            return_address: self.state.stack.return_address(word),
         }))
     }
 
@@ -261,7 +262,7 @@ fn is_above(frame: &StackFrame, address: u64) -> bool
 {
     match frame.trust {
         FrameTrust::Context => frame.stack_pointer <= address,
-        FrameTrust::Cfi | FrameTrust::FramePointer | FrameTrust::Scan => {
+        FrameTrust::Cfi | FrameTrust::FramePointer | FrameTrust::Scan | FrameTrust::Link => {
             frame.stack_pointer < address
         }
     }

@@ -71,7 +71,7 @@ impl Unwinder<'_, '_, '_, '_> {
 }
 
 // Returns the candidate of the aligned word that so many words come before.
-#[tactic(auto, unfolding(stack_walk::specs::Frames::word_candidate))]
+#[tactic(auto, using(stack_walk::proofs::AddressLemmas::none_after), unfolding(stack_walk::specs::Frames::word_candidate))]
 fn word_candidate(stack: &Stack<'_, '_>, first: u64, index: u64) -> Option<StackFrame>
     ensures { result ≡ word_candidate (stack_of stack.now) (first + index) }
 {
@@ -86,6 +86,6 @@ fn scanned_words(frame: &StackFrame) -> u64
 {
     match frame.trust {
         FrameTrust::Context => 40,
-        FrameTrust::Cfi | FrameTrust::FramePointer | FrameTrust::Scan => 30,
+        FrameTrust::Cfi | FrameTrust::FramePointer | FrameTrust::Scan | FrameTrust::Link => 30,
     }
 }

@@ -13,7 +13,7 @@ use crate::registers::register_table;
 use crate::unwinder::Unwinder;
 use breakpad_symbols::SymbolFile;
 use minidump::{Error, MinidumpContext};
-use stack_walk::{Stack, StackFrame, WalkEnd};
+use stack_walk::{Stack, StackFrame, WalkEnd, link_of};
 use std::alloc::{AllocError, Global};
 
 /// Why the last frame of a walk by symbols has no caller.
@@ -34,7 +34,8 @@ pub enum SymbolWalkEnd {
 pub struct SymbolWalk {
     /// The frame of the context and its callers, the innermost first.
     pub frames: Vec<KnownFrame>,
-    /// The candidates of the frames: words of the stack that may be return addresses.
+    /// The candidates of the frames: the link register of the context and words of the stack that may
+    /// be return addresses.
     pub candidates: Vec<StackFrame>,
     /// Why the last frame has no caller.
     pub end: SymbolWalkEnd,
@@ -63,20 +64,26 @@ pub fn walk_by_symbols(
         registers: register_table(&context.raw),
     };
     let first = KnownFrame::of_context(alloc, context)?;
-    Ok(by.walk(alloc, first, limit)?)
+    Ok(by.walk(alloc, first, link_of(context), limit)?)
 }
 
 impl Unwinder<'_, '_, '_, '_> {
-    // Walks from a frame.
-    fn walk(&self, alloc: Global, first: KnownFrame, limit: usize) -> Result<SymbolWalk, AllocError>
-        ensures { IfOk result
-            (λ walk. symbol_walk_of walk ≡ walk_from (unwinder_of self.now) (frame_of first) limit) }
+    // Walks from a frame with this link register.
+    fn walk(
+        &self,
+        alloc: Global,
+        first: KnownFrame,
+        link: Option<u64>,
+        limit: usize,
+    ) -> Result<SymbolWalk, AllocError>
+        ensures { IfOk result (λ walk. symbol_walk_of walk
+            ≡ walk_from (unwinder_of self.now) (frame_of first) link limit) }
     {
         let (mut frames, last) = self.climb(alloc, first)?;
         let end = self.end_of(alloc, &last)?;
         frames.push(last)?;
         let plain = plain_frames(alloc, frames.as_slice())?;
-        let candidates = self.stack.candidates(alloc, plain.as_slice(), limit)?;
+        let candidates = self.stack.candidates(alloc, plain.as_slice(), link, limit)?;
         Ok(SymbolWalk {
             frames,
             candidates,

@@ -54,7 +54,7 @@ const OPTIONS: &[(&str, Takes, &str)] = &[
     ("handles", Takes::Nothing, "Print all handles in the lines of text"),
     ("environment", Takes::Nothing, "Print the variables of Linux's environment, which may hold secrets"),
     ("frames", Takes::Number("N", "64"), "Print at most N frames of a thread, its candidates included, where N is 1 or more"),
-    ("scan", Takes::Number("N", "16"), "Print at most N candidates among the words of a stack"),
+    ("scan", Takes::Number("N", "16"), "Print at most N candidates of a stack"),
     ("json", Takes::Nothing, "Print a line of JSON for each DUMP"),
     ("html", Takes::NothingBeside(&["json", "stdin-paths"]), "Print a page in HTML on the one DUMP"),
     ("progress", Takes::Nothing, "Say on standard error how many dumps are done"),

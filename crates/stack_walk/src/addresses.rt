@@ -1,0 +1,88 @@
+ghost use Rattle.std.specs.Prelude.{◌≡◌, ◌+◌, IfSome, map};
+ghost use Rattle.minidump.specs.Below.Index.Digits.{digits};
+ghost use Rattle.minidump.specs.Below.Index.Lookup.{last_address};
+ghost use Rattle.minidump.specs.Below.Modules.Module.{module_of, range_of_module};
+ghost use Rattle.minidump.specs.Promise.{module_list_stream};
+ghost use Rattle.stack_walk.specs.Addresses.{address_after, code_bits, is_address, last_code};
+ghost use Rattle.stack_walk.specs.Addresses.{least_bits};
+
+use minidump::system_info::{Cpu, Os, PointerWidth};
+use minidump::{MinidumpModule, MinidumpModuleList, Region};
+
+/// Returns how many of the low bits of a return address are its address. ARM64 may sign a return
+/// address, by bits above those of any address: these are as many as the last address of all modules
+/// has, but at least 47 on Windows and macOS, 39 on iOS, and else 36, the fewest that Linux has. Other
+/// processors sign none: they have 64.
+pub fn code_bits(os: Os, cpu: Cpu, modules: &MinidumpModuleList) -> u32
+    ensures { result ≡ code_bits os cpu (module_list_stream.value modules.now) }
+{
+    match cpu {
+        Cpu::Arm64 => digits_of(last_code(modules.as_slice())).max(least_bits(os)),
+        _ => 64,
+    }
+}
+
+// Returns how many bits the smallest space of addresses of a system has on ARM64.
+fn least_bits(os: Os) -> u32
+    ensures { result ≡ least_bits os }
+{
+    match os {
+        Os::Windows | Os::MacOs => 47,
+        Os::Ios => 39,
+        _ => 36,
+    }
+}
+
+// Returns how many binary digits a number has.
+fn digits_of(number: u64) -> u32
+    ensures { result ≡ digits number }
+{
+    minidump::laws::digits_lie_between_powers_of_two();
+    64 - number.leading_zeros()
+}
+
+// Returns the last address of all modules, or 0 if none has one.
+fn last_code(modules: &[MinidumpModule]) -> u64
+    ensures { result ≡ last_code (map module_of modules.now) }
+{
+    let mut last = 0;
+    for next in modules {
+        last = last_address(next).max(last);
+    }
+    last
+}
+
+// Returns the last address of a module, or 0 if it has none.
+fn last_address(of: &MinidumpModule) -> u64
+    ensures { result ≡ last_address range_of_module (module_of of.now) }
+{
+    match of.memory_range() {
+        Some(range) => range.end,
+        None => 0,
+    }
+}
+
+/// Tells whether a number is an address of this width: whether it has at most 32 bits, if that is
+/// the width.
+pub fn is_address(width: PointerWidth, number: u64) -> bool
+    ensures { result ≡ is_address width number }
+{
+    match width {
+        PointerWidth::Bits32 => number < 1 << 32,
+        PointerWidth::Bits64 | PointerWidth::Unknown => true,
+    }
+}
+
+// Returns the address so many bytes after another, or `None` if there is none.
+#[tactic(auto, unfolding(crate::specs::Addresses::address_after))]
+pub(crate) fn address_after(width: PointerWidth, address: u64, size: u64) -> Option<u64>
+    ensures answer { result ≡ address_after width address size }
+    ensures sum { IfSome result (λ after. after ≡ address + size) }
+{
+    let after = address.checked_add(size)?;
+    if is_address(width, after) {
+        Some(after)
+    } else {
+        None
+    }
+}
