@@ -4,7 +4,7 @@ use Rattle.std.specs.Option.{option_map}
 use Rattle.std.specs.Prelude.{if◌then◌else◌}
 use Rattle.std.proofs.Common.{◌≡◌, ◌∙◌, ◌<◌, ◌≤◌, ◌+◌, ◌++◌, ◌∷◌, [], ℕ, suc, Bool, true, false, List, Option, Some, ap, arith, find, get_or}
 use Rattle.std.proofs.Common.{length, map, refl, reverse, sym, take}
-use Rattle.std.proofs.lemmas.List.{length-map, length-take-le, map-append, reverse-append, take_all, take_more}
+use Rattle.std.proofs.lemmas.List.{length-take-le, map-append, reverse-append, take_all, take_more}
 use Rattle.crash.specs.Last.{last_index}
 
 pub numbered_end : {X : Type 0} (n : ℕ) (xs : List X) (x : X) → enumerate_from n (xs ++ (x ∷ [])) ≡ enumerate_from n xs ++ ((n + length xs, x) ∷ [])

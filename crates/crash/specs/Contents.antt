@@ -33,7 +33,7 @@ use Rattle.minidump.specs.Promise.{mac_bootargs_stream, soft_errors_stream, stab
 use Rattle.minidump.specs.Promise.{handle_data_stream, linux_proc_status_stream, linux_environ_stream}
 use Rattle.minidump.specs.Promise.{linux_proc_limits_stream}
 use Rattle.stack_walk.specs.Addresses.{code_bits}
-use Rattle.crash.specs.Space.{first_infos, first_memory}
+use Rattle.crash.specs.Space.{first_infos, first_memory, regions_outside_of}
 use Rattle.crash.specs.declared.contents.SystemStreams.{SystemStreams}
 use Rattle.crash.specs.declared.contents.ThreadStreams.{ThreadStreams}
 use Rattle.crash.specs.declared.space.SpaceStreams.{SpaceStreams}
@@ -96,13 +96,15 @@ thread_streams_of s = record {
 }
 
 -- the streams of the address space: the memory and what is known of its regions, by the first
--- stream that can be read, the errors of both, and how many lines the maps have
+-- stream that can be read, the errors of both, how many regions of the plain list of memory are outside
+-- the file, and how many lines the maps have
 pub record SpaceStreamValues : Type 0 where
   pub modules : List ModuleValue
   pub modules_error : Option Error
   pub unloaded : Result (List UnloadedValue) Error
   pub memory : UnifiedRegions
   pub memory_errors : Option Error × Option Error
+  pub regions_outside : ℕ
   pub infos : InfoRegions
   pub infos_errors : Option Error × Option Error
   pub map_count : Option ℕ
@@ -118,6 +120,7 @@ space_streams_in d = record {
     result_err (stream_of memory64_list_stream d),
     result_err (stream_of memory_list_stream d),
   );
+  regions_outside = regions_outside_of (stream_of memory_list_stream d);
   infos = first_infos (stream_of memory_info_list_stream d) (stream_of linux_maps_stream d);
   infos_errors = (
     result_err (stream_of memory_info_list_stream d),
@@ -134,6 +137,7 @@ space_streams_of s = record {
   unloaded = map_ok unloaded_module_list_stream.value s.unloaded;
   memory = unified_list s.memory;
   memory_errors = s.memory_errors;
+  regions_outside = s.regions_outside;
   infos = info_list s.infos;
   infos_errors = s.infos_errors;
   map_count = s.map_count;

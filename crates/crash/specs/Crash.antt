@@ -57,9 +57,9 @@ crash_of_findings c f = record {
 }
 
 -- what is there and can't be read
-abbrev pub damage_in : DirectoryValue → CauseValue → ThreadsValue → List Damage
-damage_in directory cause threads =
-    damage_by directory.entries directory.regions_outside cause.exceptions threads.threads
+abbrev pub damage_in : ContentsValue → DirectoryValue → CauseValue → ThreadsValue → List Damage
+damage_in c directory cause threads =
+    damage_by directory.entries c.space.regions_outside cause.exceptions threads.threads
 
 -- the crash of a dump, by its contents and by what is found in them
 abbrev crash_with : Dump → ContentsValue → DirectoryValue → CauseValue → ThreadsValue → CrashValue
@@ -71,7 +71,7 @@ crash_with d c directory cause threads = record {
   threads = threads;
   point = point_in c threads.crashing;
   modules = modules_in d c;
-  damage = damage_in directory cause threads;
+  damage = damage_in c directory cause threads;
 }
 
 -- the crash of a dump with these contents

@@ -1,6 +1,5 @@
 -- What the header and the directory of a dump say: when it was written, which streams it has, each
--- with the error for which it can't be read, and how many entries and regions of memory lie outside the
--- file.
+-- with the error for which it can't be read, and how many entries lie outside the file.
 use Rattle.std.specs.Prelude.{◌≡◌, ℕ, List, count_by, is_none, map, Option, Some, None, Result, Err}
 use Rattle.std.specs.List.{last_or}
 use Rattle.std.specs.Option.{option_and_then}
@@ -20,14 +19,12 @@ use Rattle.minidump.specs.Streams.{entries_of}
 use Rattle.crash.specs.declared.directory.CrashDirectory.{CrashDirectory}
 use Rattle.crash.specs.declared.directory.StreamEntry.{StreamEntry}
 use Rattle.crash.specs.Contents.{ContentsValue}
-use Rattle.crash.specs.Regions.{regions_outside}
 
--- when a dump was written, its streams, and how many entries and regions of memory lie outside the file
+-- when a dump was written, its streams, and how many entries lie outside the file
 pub record DirectoryValue : Type 0 where
   pub written : ℕ
   pub entries : List StreamEntry
   pub entries_outside : ℕ
-  pub regions_outside : ℕ
 
 -- the same of a `CrashDirectory`
 abbrev pub directory_of : CrashDirectory → DirectoryValue
@@ -35,7 +32,6 @@ directory_of d = record {
   written = d.written;
   entries = d.entries.items;
   entries_outside = d.entries_outside;
-  regions_outside = d.regions_outside;
 }
 
 -- the error for which the bytes of a stream can't be had
@@ -118,5 +114,4 @@ directory_in d c = record {
   written = d.header.time_date_stamp;
   entries = entries_in d c;
   entries_outside = outside_in d;
-  regions_outside = regions_outside d;
 }

@@ -4,7 +4,6 @@ pub mod Missing
 pub mod Space
 pub mod Contents
 pub mod Last
-pub mod Regions
 pub mod Directory
 pub mod Release
 pub mod ProcessTexts

@@ -226,8 +226,8 @@ lacks_address MacOs cpu r = has_no_protection_address r
 lacks_address Windows cpu r = has_no_access_address cpu r
 lacks_address _ cpu r = false
 
--- the flags of an access don't say why it failed: they are LLDB's or, but on Windows, 0, as LLDB wrote them
--- before
+-- the flags of an access don't say why it failed: they are LLDB's mark or, but on Windows, 0, which LLDB writes,
+-- too
 abbrev pub says_no_cause : Os → MINIDUMP_EXCEPTION → Bool
 says_no_cause Windows r = has_lldb_flag r
 says_no_cause _ r = r.exception_flags == 0 || has_lldb_flag r

@@ -25,7 +25,7 @@ use minidump::{
     Error, MinidumpThreadList, MinidumpUnloadedModule, MinidumpUnloadedModuleList, Region,
     UnifiedMemoryInfo,
 };
-use stack_walk::module_place;
+use stack_walk::{is_code, module_place};
 
 /// What is known of an address.
 #[derive(Clone, Copy)]
@@ -217,8 +217,7 @@ fn is_below_stack(address: u64, stack: Option<StackRange>) -> bool
 pub(crate) fn has_code(contents: &Contents<'_>, address: u64) -> bool
     ensures { result ≡ has_code (contents_of contents.now) address }
 {
-    contents.space.modules.module_at_address(address).is_some()
-        || is_executable(memory_at(contents, address))
+    is_code(&contents.space.modules, address) || is_executable(memory_at(contents, address))
 }
 
 // Tells whether memory is known to be executable.

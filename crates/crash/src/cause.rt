@@ -2,7 +2,6 @@ ghost use Rattle.std.specs.Prelude.{◌≡◌, IfOk, IsOkUnless, map, string_byt
 ghost use Rattle.std.specs.Option.{option_copied, option_map};
 ghost use Rattle.minidump.specs.Below.Contexts.Context.{map_ok};
 ghost use Rattle.minidump.specs.Promise.{exception_stream, system_info_stream};
-ghost use Rattle.stack_walk.specs.Frames.{instruction_pointer_in};
 ghost use Rattle.crash.specs.Cause.{address_at, address_on, address_unless, cause_in, cause_of};
 ghost use Rattle.crash.specs.Cause.{counted_exception, exception_in, exception_of, exceptions_in};
 ghost use Rattle.crash.specs.Cause.{has_no_address, is_instruction, is_where_it_stood, reason_in};
@@ -11,14 +10,16 @@ ghost use Rattle.crash.specs.Counting.{counted};
 
 use crate::addresses::{AddressFacts, facts_of, has_code};
 use crate::contents::Contents;
-use crate::contexts::{ContextProblem, FoundContext, context_with, named_bytes, problem_in};
+use crate::contexts::{ContextProblem, context_with, named_bytes, problem_in};
 use crate::counting::counting;
 use crate::each::{MakeItem, make_items};
+use crate::frames::context_of;
+use crate::point::instruction_pointer_of;
 use crate::records::{
     Access, Sender, access_of, description_of, lacks_address, may_be_instruction, parameters_of,
     sender_of,
 };
-use minidump::{CodeNames, Error, MinidumpContext, MinidumpException, MinidumpSystemInfo};
+use minidump::{CodeNames, Error, MinidumpException, MinidumpSystemInfo};
 use std::alloc::Global;
 
 /// Where and why a process crashed.
@@ -277,16 +278,9 @@ fn is_instruction(
         (exception_stream.value exception.now) address }
 {
     match context_with(system, exception) {
-        Some(found) => instruction_of(&found) == address,
+        Some(found) => instruction_pointer_of(&context_of(&found)) == address,
         None => false,
     }
-}
-
-// Returns the instruction pointer of a context.
-fn instruction_of(found: &FoundContext) -> u64
-    ensures { result ≡ instruction_pointer_in found.now.raw }
-{
-    MinidumpContext::from_raw(found.raw).get_instruction_pointer()
 }
 
 // Makes the words for the reason of the crash.

@@ -152,7 +152,7 @@ fn findings_in<'a>(
 {
     let (directory, process, modules) = dump_parts(alloc, file, dump, contents)?;
     let (cause, threads, point) = thread_parts(alloc, contents, names, scan)?;
-    let damage = damage_in(alloc, &directory, &cause, &threads)?;
+    let damage = damage_in(alloc, contents, &directory, &cause, &threads)?;
     Ok(Findings {
         directory,
         process,
@@ -209,17 +209,18 @@ fn thread_parts<'a>(
 // Returns what is there and can't be read.
 fn damage_in(
     alloc: Global,
+    contents: &Contents<'_>,
     directory: &CrashDirectory,
     cause: &CrashCause,
     threads: &CrashThreads,
 ) -> Result<Vec<Damage>, AllocError>
-    ensures { IfOk result (λ damage. damage.items ≡ damage_in (directory_of directory.now)
-        (cause_of cause.now) (threads_of threads.now)) }
+    ensures { IfOk result (λ damage. damage.items ≡ damage_in (contents_of contents.now)
+        (directory_of directory.now) (cause_of cause.now) (threads_of threads.now)) }
 {
     damage_of(
         alloc,
         directory.entries.as_slice(),
-        directory.regions_outside,
+        contents.space.regions_outside,
         cause.exceptions.as_slice(),
         threads.threads.as_slice(),
     )

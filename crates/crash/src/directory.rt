@@ -1,5 +1,4 @@
 ghost use Rattle.std.specs.Prelude.{◌≡◌, ◌^◌, ◌<◌, IfOk, Ok, if◌then◌else◌, is_none, length, map};
-ghost use Rattle.std.specs.Result.{result_err};
 ghost use Rattle.minidump.specs.Below.Contexts.Context.{map_ok};
 ghost use Rattle.minidump.specs.Below.Format.Header.{located};
 ghost use Rattle.minidump.specs.Dump.{dump_in};
@@ -11,10 +10,10 @@ ghost use Rattle.crash.specs.Directory.{entry_in, error_of_number, error_of_type
 ghost use Rattle.crash.specs.Directory.{outside_in, raw_error};
 
 use crate::contents::Contents;
-use crate::regions::regions_outside;
+use crate::space::error_of;
 use minidump::format::{MINIDUMP_DIRECTORY, MINIDUMP_STREAM_TYPE};
 use minidump::own_streams::Entries;
-use minidump::{Error, Minidump, MinidumpException, MinidumpStream, Source, Steps};
+use minidump::{Error, Minidump, MinidumpException, Source, Steps};
 use std::alloc::{AllocError, Global};
 
 /// What the header and the directory of a dump say.
@@ -28,9 +27,6 @@ pub struct CrashDirectory {
     /// How many entries of the directory have bytes that are not all in the file: of all its
     /// entries, also those that don't decide.
     pub entries_outside: u64,
-    /// How many regions of the plain list of memory name bytes that are not all in the file. The memory
-    /// has no such region. 0 if the list can't be read.
-    pub regions_outside: u64,
 }
 
 /// A stream, by the entry of the directory that decides it.
@@ -62,7 +58,6 @@ pub(crate) fn directory_of(
         written: dump.header.time_date_stamp,
         entries: entries_of(alloc, dump, contents)?,
         entries_outside: outside_of(dump, file),
-        regions_outside: regions_outside(dump, file),
     })
 }
 
@@ -147,16 +142,6 @@ fn error_of_type(
         MINIDUMP_STREAM_TYPE::LinuxEnviron => error_of(&process.environ),
         MINIDUMP_STREAM_TYPE::MozLinuxLimits => error_of(&process.limits),
         _ => raw_error(dump, number),
-    }
-}
-
-// Returns the error for which a stream can't be read.
-fn error_of<'a, S: MinidumpStream<'a>>(found: &Result<S, Error>) -> Option<Error>
-    ensures { result ≡ result_err (map_ok S.spec.value found.now) }
-{
-    match found {
-        Ok(_) => None,
-        Err(error) => Some(*error),
     }
 }
 

@@ -85,7 +85,7 @@ pub(crate) fn walked_exception<'l, 'a>(
 }
 
 // Returns the context that is found, all of whose registers are valid.
-fn context_of(found: &FoundContext) -> MinidumpContext
+pub(crate) fn context_of(found: &FoundContext) -> MinidumpContext
     ensures { result ≡ context_of found.now }
 {
     MinidumpContext::from_raw(found.raw)

@@ -70,7 +70,6 @@ mod point;
 mod process;
 mod process_texts;
 mod records;
-mod regions;
 mod release;
 mod set_flags;
 mod space;

@@ -98,7 +98,7 @@ fn point_by<'a>(
 }
 
 // Returns the instruction pointer of a context.
-fn instruction_pointer_of(context: &MinidumpContext) -> u64
+pub(crate) fn instruction_pointer_of(context: &MinidumpContext) -> u64
     ensures { result ≡ instruction_pointer_in context.now.raw }
 {
     context.get_instruction_pointer()

@@ -10,12 +10,12 @@ ghost use Rattle.minidump.specs.Promise.{linux_maps_stream, memory64_list_stream
 ghost use Rattle.minidump.specs.Promise.{memory_info_list_stream, memory_list_stream};
 ghost use Rattle.minidump.specs.Promise.{module_list_stream};
 ghost use Rattle.crash.specs.Contents.{space_streams_in, space_streams_of};
-ghost use Rattle.crash.specs.Space.{first_infos, first_memory};
+ghost use Rattle.crash.specs.Space.{first_infos, first_memory, regions_outside_of};
 
 use minidump::{
     Error, Minidump, MinidumpLinuxMaps, MinidumpMemory64List, MinidumpMemoryInfoList,
-    MinidumpMemoryList, MinidumpModuleList, MinidumpUnloadedModuleList, UnifiedMemory,
-    UnifiedMemoryInfoList, UnifiedMemoryList,
+    MinidumpMemoryList, MinidumpModuleList, MinidumpStream, MinidumpUnloadedModuleList,
+    UnifiedMemory, UnifiedMemoryInfoList, UnifiedMemoryList,
 };
 use std::alloc::{AllocError, Global};
 
@@ -35,6 +35,10 @@ pub struct SpaceStreams<'a> {
     /// Why the 64-bit list (Memory64ListStream) and the plain list (MemoryListStream) can't be read,
     /// each `None` if it can be.
     pub memory_errors: (Option<Error>, Option<Error>),
+    /// How many regions of the plain list of memory name bytes that are not all in the file, also where
+    /// the memory is that of the 64-bit list. `memory` has none of them. 0 if the plain list can't be
+    /// read.
+    pub regions_outside: u64,
     /// What is known of the regions of memory.
     pub infos: UnifiedMemoryInfoList<'a>,
     /// Why the memory information (MemoryInfoListStream) and the maps (LinuxMaps) can't be read, each
@@ -65,9 +69,11 @@ pub(crate) fn space_streams<'a>(
     ensures streams { IfOk result (λ s. space_streams_of s ≡ space_streams_in (dump_of dump.now)) }
     ensures memory { IsOkUnless result Error.OutOfMemory }
 {
-    let (modules, modules_error) = modules_or_none(alloc, dump.try_stream(alloc)?);
+    let modules = dump.try_stream(alloc)?;
+    let modules_error = error_of(&modules);
+    let modules = modules_or_none(alloc, modules);
     let unloaded = dump.try_stream(alloc)?;
-    let (memory, memory_errors) = memory_streams(alloc, dump)?;
+    let (memory, memory_errors, regions_outside) = memory_streams(alloc, dump)?;
     let (infos, infos_errors, map_count) = info_streams(alloc, dump)?;
     Ok(SpaceStreams {
         modules,
@@ -75,23 +81,30 @@ pub(crate) fn space_streams<'a>(
         unloaded,
         memory,
         memory_errors,
+        regions_outside,
         infos,
         infos_errors,
         map_count,
     })
 }
 
-// Reads the memory, and returns it with the errors of both lists.
+// Reads the memory, and returns it with the errors of both lists and the number of regions of the
+// plain list that are outside the file.
 fn memory_streams<'a>(
     alloc: Global,
     dump: &Minidump<'a>,
-) -> Result<(UnifiedMemoryList<'a>, (Option<Error>, Option<Error>)), Error>
+) -> Result<(UnifiedMemoryList<'a>, (Option<Error>, Option<Error>), u64), Error>
     ensures list { IfOk result (λ s. unified_list s.0 ≡ (space_streams_in (dump_of dump.now)).memory) }
     ensures errors { IfOk result (λ s. s.1 ≡ (space_streams_in (dump_of dump.now)).memory_errors) }
+    ensures outside { IfOk result
+        (λ s. s.2 ≡ (space_streams_in (dump_of dump.now)).regions_outside) }
     ensures memory { IsOkUnless result Error.OutOfMemory }
 {
     let memory64 = dump.try_stream(alloc)?;
-    Ok(first_memory(alloc, memory64, dump.try_stream(alloc)?))
+    let plain = dump.try_stream(alloc)?;
+    let errors = (error_of(&memory64), error_of(&plain));
+    let outside = regions_outside_of(&plain);
+    Ok((first_memory(alloc, memory64, plain), errors, outside))
 }
 
 // Reads what is known of the regions of memory, and returns it with the errors of both streams and
@@ -114,70 +127,73 @@ fn info_streams<'a>(
 {
     let infos = dump.try_stream(alloc)?;
     let maps = dump.try_stream(alloc)?;
+    let errors = (error_of(&infos), error_of(&maps));
     let map_count = count_of(&maps);
-    let (infos, errors) = first_infos(alloc, infos, maps);
-    Ok((infos, errors, map_count))
+    Ok((first_infos(alloc, infos, maps), errors, map_count))
 }
 
-// Returns the modules, or none and the error.
-fn modules_or_none(
-    alloc: Global,
-    found: Result<MinidumpModuleList, Error>,
-) -> (MinidumpModuleList, Option<Error>)
-    ensures list { module_list_stream.value result.0
-        ≡ unwrap_or (result_ok (map_ok module_list_stream.value found)) [] }
-    ensures error { result.1 ≡ result_err (map_ok module_list_stream.value found) }
+// Returns the error for which a stream can't be read.
+pub(crate) fn error_of<'a, S: MinidumpStream<'a>>(found: &Result<S, Error>) -> Option<Error>
+    ensures { result ≡ result_err (map_ok S.spec.value found.now) }
 {
     match found {
-        Ok(modules) => (modules, None),
-        Err(error) => (MinidumpModuleList::new(alloc), Some(error)),
+        Ok(_) => None,
+        Err(error) => Some(*error),
     }
 }
 
-// Returns the first list of memory that could be read, or none, and the errors of both.
+// Returns the modules, or none.
+fn modules_or_none(alloc: Global, found: Result<MinidumpModuleList, Error>) -> MinidumpModuleList
+    ensures { module_list_stream.value result
+        ≡ unwrap_or (result_ok (map_ok module_list_stream.value found)) [] }
+{
+    match found {
+        Ok(modules) => modules,
+        Err(_) => MinidumpModuleList::new(alloc),
+    }
+}
+
+// Returns the first list of memory that could be read, or none.
 fn first_memory<'a>(
     alloc: Global,
     memory64: Result<MinidumpMemory64List<'a>, Error>,
     memory: Result<MinidumpMemoryList<'a>, Error>,
-) -> (UnifiedMemoryList<'a>, (Option<Error>, Option<Error>))
-    ensures list { unified_list result.0 ≡ first_memory
+) -> UnifiedMemoryList<'a>
+    ensures { unified_list result ≡ first_memory
         (map_ok memory64_list_stream.value memory64.entry)
         (map_ok memory_list_stream.value memory.entry) }
-    ensures errors { result.1 ≡ (
-      result_err (map_ok memory64_list_stream.value memory64.entry),
-      result_err (map_ok memory_list_stream.value memory.entry),
-    ) }
 {
     match (memory64, memory) {
-        (Ok(list), Ok(_)) => (UnifiedMemoryList::Memory64(list), (None, None)),
-        (Ok(list), Err(error)) => (UnifiedMemoryList::Memory64(list), (None, Some(error))),
-        (Err(error), Ok(list)) => (UnifiedMemoryList::Memory(list), (Some(error), None)),
-        (Err(error), Err(other)) => (UnifiedMemoryList::new(alloc), (Some(error), Some(other))),
+        (Ok(list), _) => UnifiedMemoryList::Memory64(list),
+        (Err(_), Ok(list)) => UnifiedMemoryList::Memory(list),
+        (Err(_), Err(_)) => UnifiedMemoryList::new(alloc),
     }
 }
 
-// Returns the first list of information that could be read, or none, and the errors of both.
+// Returns the number of regions of the plain list of memory that are outside the file.
+fn regions_outside_of(memory: &Result<MinidumpMemoryList<'_>, Error>) -> u64
+    ensures { result ≡ regions_outside_of (map_ok memory_list_stream.value memory.now) }
+{
+    match memory {
+        Ok(memory) => memory.regions_outside(),
+        Err(_) => 0,
+    }
+}
+
+// Returns the first list of information that could be read, or none.
 fn first_infos<'a>(
     alloc: Global,
     infos: Result<MinidumpMemoryInfoList<'a>, Error>,
     maps: Result<MinidumpLinuxMaps<'a>, Error>,
-) -> (UnifiedMemoryInfoList<'a>, (Option<Error>, Option<Error>))
-    ensures list { info_list result.0 ≡ first_infos
+) -> UnifiedMemoryInfoList<'a>
+    ensures { info_list result ≡ first_infos
         (map_ok memory_info_list_stream.value infos.entry)
         (map_ok linux_maps_stream.value maps.entry) }
-    ensures errors { result.1 ≡ (
-      result_err (map_ok memory_info_list_stream.value infos.entry),
-      result_err (map_ok linux_maps_stream.value maps.entry),
-    ) }
 {
     match (infos, maps) {
-        (Ok(list), Ok(_)) => (UnifiedMemoryInfoList::Info(list), (None, None)),
-        (Ok(list), Err(error)) => (UnifiedMemoryInfoList::Info(list), (None, Some(error))),
-        (Err(error), Ok(list)) => (UnifiedMemoryInfoList::Maps(list), (Some(error), None)),
-        (Err(error), Err(other)) => (
-            UnifiedMemoryInfoList::empty(alloc),
-            (Some(error), Some(other)),
-        ),
+        (Ok(list), _) => UnifiedMemoryInfoList::Info(list),
+        (Err(_), Ok(list)) => UnifiedMemoryInfoList::Maps(list),
+        (Err(_), Err(_)) => UnifiedMemoryInfoList::empty(alloc),
     }
 }
 

@@ -29,8 +29,6 @@ struct FileError<'t> {
 }
 
 impl ToJson for FileError<'_> {
-    ghost use Rattle.crash_json.specs.Report.{error_json};
-
     ghost json = { λ r. error_json r.path.now r.status.now };
 
     #[tactic(auto, unfolding(crate::specs::Report::error_json))]

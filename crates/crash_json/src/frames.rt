@@ -30,9 +30,7 @@ pub(crate) struct EachFrame<'l, 'a, 's, 'n> {
 }
 
 impl<'s, 'n> NumberedJson<ShownFrame<'s, 'n>> for EachFrame<'_, '_, '_, '_> {
-    ghost use Rattle.crash_symbols.specs.Shown.{shown_frame_of};
     ghost use Rattle.crash_json.specs.Frames.{frame_json};
-    ghost use Rattle.crash_json.specs.Members.{context_in, report_of};
 
     ghost json_at = { λ e n f. frame_json (report_of e.report) (context_in e.context) n
         (shown_frame_of f) };

@@ -37,8 +37,6 @@ pub(crate) fn main_module(modules: &[CrashModule]) -> Option<usize>
 }
 
 impl NumberedJson<CrashModule> for Report<'_, '_, '_, '_> {
-    ghost use Rattle.crash.specs.Modules.{loaded_of};
-    ghost use Rattle.crash_json.specs.Members.{report_of};
     ghost use Rattle.crash_json.specs.Modules.{module_json};
 
     ghost json_at = { λ r n m. module_json (report_of r).symbols n (loaded_of m) };

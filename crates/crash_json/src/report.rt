@@ -36,7 +36,6 @@ pub(crate) struct Report<'l, 'a, 's, 'n> {
 }
 
 impl ToJson for Report<'_, '_, '_, '_> {
-    ghost use Rattle.crash_json.specs.Members.{report_of};
     ghost use Rattle.crash_json.specs.Report.{line_json};
 
     ghost json = { λ r. line_json (report_of r) };

@@ -29,8 +29,6 @@ pub(crate) struct EachThread<'l, 'a, 's, 'n> {
 }
 
 impl NumberedJson<CrashThread> for EachThread<'_, '_, '_, '_> {
-    ghost use Rattle.crash.specs.Threads.{thread_value};
-    ghost use Rattle.crash_json.specs.Members.{report_of};
     ghost use Rattle.crash_json.specs.Threads.{thread_json};
 
     ghost json_at = { λ e n t. thread_json (report_of e.report) e.is_crashing n (thread_value t) };

@@ -93,7 +93,7 @@ fn push_unloaded(
 }
 
 impl Line for UnloadedModule {
-    ghost use Rattle.crash.specs.Modules.{UnloadedModuleValue, unloaded_module_of};
+    ghost use Rattle.crash.specs.Modules.{UnloadedModuleValue};
     ghost use Rattle.crash_text.specs.Lists.{unloaded_line};
 
     ghost Value = { UnloadedModuleValue };
@@ -192,7 +192,6 @@ fn push_regions(out: &mut String, limits: &TextLimits, memory: &UnifiedMemoryLis
 
 impl Line for UnifiedMemory<'_, '_> {
     ghost use Rattle.minidump.specs.Below.MemoryLists.Unified.{UnifiedRegion, unified_region};
-    ghost use Rattle.crash_text.specs.Lists.{region_line};
 
     ghost Value = { UnifiedRegion };
 
@@ -247,7 +246,7 @@ fn push_handles(
 }
 
 impl Line for HandleKind {
-    ghost use Rattle.crash.specs.HandleKinds.{KindValue, kind_of};
+    ghost use Rattle.crash.specs.HandleKinds.{KindValue};
     ghost use Rattle.crash_text.specs.Lists.{kind_line};
 
     ghost Value = { KindValue };

@@ -55,11 +55,16 @@ pub fn system_info(info: &MinidumpSystemInfo) -> (Option<&str>, Option<&str>)
     (info.csd_version(), info.cpu_info())
 }
 
-/// Returns the regions of a memory list.
-pub fn memory_list<'l, 'a>(list: &'l MinidumpMemoryList<'a>) -> slice::Iter<'l, MinidumpMemory<'a>>
-    ensures { map memory_of (iter_rest result) ≡ memory_list_stream.value list.now }
+/// Returns the regions of a memory list, and how many of its descriptors name bytes outside the file.
+pub fn memory_list<'l, 'a>(
+    list: &'l MinidumpMemoryList<'a>,
+) -> (slice::Iter<'l, MinidumpMemory<'a>>, u64)
+    ensures { memory_list_stream.value list.now ≡ record {
+      regions = map memory_of (iter_rest result.0);
+      outside = result.1;
+    } }
 {
-    list.iter()
+    (list.iter(), list.regions_outside())
 }
 
 /// Returns the regions of a 64-bit memory list.

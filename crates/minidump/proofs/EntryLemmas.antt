@@ -7,13 +7,13 @@ use Rattle.std.specs.Prelude.{◌↔◌, Option, Result, Ok, Err, IfErr, IsOk, I
 use Rattle.minidump_bytes.proofs.EntryLemmas.{length-entries}
 use Rattle.minidump_format.specs.declared.error.Error.{Error}
 use Rattle.minidump_format.specs.declared.error.Error.TheVariants.{OutOfMemory}
-use Rattle.minidump_format.specs.declared.format.memory.MINIDUMP_MEMORY_DESCRIPTOR.{MINIDUMP_MEMORY_DESCRIPTOR}
 use Rattle.minidump_format.specs.declared.format.memory.MINIDUMP_MEMORY_DESCRIPTOR64.{MINIDUMP_MEMORY_DESCRIPTOR64}
 use Rattle.minidump_format.specs.Header.{directory_entry}
 use Rattle.minidump_system.specs.Reads.{and_then}
 use Rattle.minidump_system.specs.StreamSpec.{StreamSpec}
 use Rattle.minidump_memory.specs.Memory.{MemoryRegion}
-use Rattle.minidump_memory.specs.Unified.{Memory}
+use Rattle.minidump_memory.specs.MemoryList.{PlainMemory}
+use Rattle.minidump_memory.specs.Unified.{plain_regions}
 use Rattle.minidump.specs.declared.directory.DecidingEntry.{DecidingEntry}
 use Rattle.minidump.specs.Directory.{deciding_entry, directory}
 use Rattle.minidump.specs.Dump.{Dump, dump_system, raw_stream, stream_memory, stream_of}
@@ -73,7 +73,7 @@ regions_take_entry d takes = elim takes [
 pub regions_have_entry : (d : Dump) → IsSome (memories_of_dump d) → 0 < d.header.stream_count
 regions_have_entry d some = by_lists (stream_of memory64_list_stream d) (stream_of memory_list_stream d) refl refl some
   where
-    by_lists : (long : Result (List (MemoryRegion MINIDUMP_MEMORY_DESCRIPTOR64)) Error) (plain : Result (List (MemoryRegion MINIDUMP_MEMORY_DESCRIPTOR)) Error)
+    by_lists : (long : Result (List (MemoryRegion MINIDUMP_MEMORY_DESCRIPTOR64)) Error) (plain : Result PlainMemory Error)
         → stream_of memory64_list_stream d ≡ long → stream_of memory_list_stream d ≡ plain
         → IsSome (memories_of_dump d) → 0 < d.header.stream_count
     by_lists (Ok l) plain is_long is_plain k = stream_has_entry memory64_list_stream d (rw is_long refl)
@@ -81,16 +81,16 @@ regions_have_entry d some = by_lists (stream_of memory64_list_stream d) (stream_
     by_lists (Err e) (Err f) is_long is_plain k = absurd (false≢true (rw (is_long, is_plain) at k))
 
 -- the memory of a dump whose 64-bit list isn't found
-pub plain_memory : (d : Dump) (found : Option (List (MemoryRegion MINIDUMP_MEMORY_DESCRIPTOR))) → result_ok (stream_of memory64_list_stream d) ≡ None
-    → result_ok (stream_of memory_list_stream d) ≡ found → memories_of_dump d ≡ option_map Memory found
-plain_memory d found none is = by_lists (stream_of memory64_list_stream d) (stream_of memory_list_stream d) refl refl none is
+pub memory_of_plain : (d : Dump) (found : Option PlainMemory) → result_ok (stream_of memory64_list_stream d) ≡ None
+    → result_ok (stream_of memory_list_stream d) ≡ found → memories_of_dump d ≡ option_map plain_regions found
+memory_of_plain d found none is = by_lists (stream_of memory64_list_stream d) (stream_of memory_list_stream d) refl refl none is
   where
-    by_lists : (long : Result (List (MemoryRegion MINIDUMP_MEMORY_DESCRIPTOR64)) Error) (plain : Result (List (MemoryRegion MINIDUMP_MEMORY_DESCRIPTOR)) Error)
+    by_lists : (long : Result (List (MemoryRegion MINIDUMP_MEMORY_DESCRIPTOR64)) Error) (plain : Result PlainMemory Error)
         → stream_of memory64_list_stream d ≡ long → stream_of memory_list_stream d ≡ plain → result_ok (stream_of memory64_list_stream d) ≡ None
-        → result_ok (stream_of memory_list_stream d) ≡ found → memories_of_dump d ≡ option_map Memory found
+        → result_ok (stream_of memory_list_stream d) ≡ found → memories_of_dump d ≡ option_map plain_regions found
     by_lists (Ok l) plain is_long is_plain none is = let never : Some l ≡ None = rw is_long at none in cc
-    by_lists (Err e) (Ok p) is_long is_plain none is = rw (is_long, is_plain) (ap (option_map Memory) (rw is_plain at is))
-    by_lists (Err e) (Err f) is_long is_plain none is = rw (is_long, is_plain) (ap (option_map Memory) (rw is_plain at is))
+    by_lists (Err e) (Ok p) is_long is_plain none is = rw (is_long, is_plain) (ap (option_map plain_regions) (rw is_plain at is))
+    by_lists (Err e) (Err f) is_long is_plain none is = rw (is_long, is_plain) (ap (option_map plain_regions) (rw is_plain at is))
 
 -- ---- what a call returns
 

@@ -2,19 +2,19 @@
 use Rattle.std.specs.Prelude.{◌≡◌, ◌⊎◌, List, Option, Some, None, Result, Ok, Err}
 use Rattle.std.specs.Result.{result_ok}
 use Rattle.minidump_format.specs.declared.error.Error.{Error}
-use Rattle.minidump_format.specs.declared.format.memory.MINIDUMP_MEMORY_DESCRIPTOR.{MINIDUMP_MEMORY_DESCRIPTOR}
 use Rattle.minidump_format.specs.declared.format.memory.MINIDUMP_MEMORY_DESCRIPTOR64.{MINIDUMP_MEMORY_DESCRIPTOR64}
 use Rattle.minidump_memory.specs.Memory.{MemoryRegion}
-use Rattle.minidump_memory.specs.Unified.{Memory, Memory64, UnifiedRegions}
+use Rattle.minidump_memory.specs.MemoryList.{PlainMemory}
+use Rattle.minidump_memory.specs.Unified.{Memory64, UnifiedRegions, plain_regions}
 use Rattle.minidump.specs.Dump.{Dump, stream_memory, stream_of}
 use Rattle.minidump.specs.Promise.{memory_list_stream, memory64_list_stream}
 
 -- the 64-bit list; the memory list where that one is missing or malformed; none where both are. A
 -- 64-bit list that was read hides the memory list also where it does not have an address
 abbrev first_found : Result (List (MemoryRegion MINIDUMP_MEMORY_DESCRIPTOR64)) Error
-    → Result (List (MemoryRegion MINIDUMP_MEMORY_DESCRIPTOR)) Error → Option UnifiedRegions
+    → Result PlainMemory Error → Option UnifiedRegions
 first_found (Ok long) plain = Some (Memory64 long)
-first_found (Err _) (Ok plain) = Some (Memory plain)
+first_found (Err _) (Ok plain) = Some (plain_regions plain)
 first_found (Err _) (Err _) = None
 
 -- the memory of a dump: of Memory64ListStream, else of MemoryListStream, the first that is there

@@ -2,7 +2,7 @@
 use Rattle.std.specs.Prelude.{◌≡◌, Result, Ok, Err}
 use Rattle.minidump_format.specs.declared.error.Error.{Error}
 use Rattle.minidump_memory.specs.declared.unified.UnifiedMemoryList.{UnifiedMemoryList}
-use Rattle.minidump_memory.specs.Unified.{Memory, Memory64, UnifiedRegions, unified_list}
+use Rattle.minidump_memory.specs.Unified.{Memory64, UnifiedRegions, plain_regions, unified_list}
 use Rattle.minidump_system.specs.StreamSpec.{StreamSpec}
 use Rattle.minidump.specs.declared.shared.SharedStreams.{SharedStreams}
 use Rattle.minidump.specs.Dump.{Dump, IsStreamOf, stream_of}
@@ -20,4 +20,4 @@ pub record AreShared (dump : Dump) (streams : SharedStreams) : Type 0 where
   pub exception : IsStreamOf exception_stream dump streams.exception
   pub threads : IsStreamOf thread_list_stream dump streams.threads
   pub memory64 : IsListOf memory64_list_stream Memory64 dump streams.memory64
-  pub memory : IsListOf memory_list_stream Memory dump streams.memory
+  pub memory : IsListOf memory_list_stream plain_regions dump streams.memory

@@ -294,7 +294,7 @@ pub fn values_are_those_of_the_entries<T>()
         → map f (linux_maps_stream.value list) ≡ map (λ m. f (map_info_of m)) (maps_of list) }
     ensures memory { (list : MinidumpMemoryListBase MINIDUMP_MEMORY_DESCRIPTOR)
         (f : MemoryRegion MINIDUMP_MEMORY_DESCRIPTOR → T)
-        → map f (memory_list_stream.value list) ≡ map (λ m. f (memory_of m)) (regions_of list) }
+        → map f (memory_list_stream.value list).regions ≡ map (λ m. f (memory_of m)) (regions_of list) }
     ensures memory64 { (list : MinidumpMemoryListBase MINIDUMP_MEMORY_DESCRIPTOR64)
         (f : MemoryRegion MINIDUMP_MEMORY_DESCRIPTOR64 → T)
         → map f (memory64_list_stream.value list) ≡ map (λ m. f (memory_of m)) (regions_of list) }

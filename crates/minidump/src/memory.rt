@@ -15,7 +15,7 @@ impl<'a> Minidump<'a> {
     /// malformed, its [`MinidumpMemoryList`], or `None` if neither can be read. The only error is
     /// [`Error::OutOfMemory`], after which the other list is not tried. A directory without entries
     /// takes no memory.
-    #[tactic(auto, using(crate::proofs::EntryLemmas::plain_memory))]
+    #[tactic(auto, using(crate::proofs::EntryLemmas::memory_of_plain))]
     pub fn get_memory(&self, alloc: Global) -> Result<Option<UnifiedMemoryList<'a>>, Error>
         ensures means { Gives (option_map unified_list) (TakesMemory (dump_of self.now)) result
             (Ok (memories_of_dump (dump_of self.now))) }

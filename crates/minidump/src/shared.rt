@@ -1,7 +1,7 @@
 ghost use Rattle.std.specs.Prelude.{◌≡◌, ◌≢◌, Err, IfOk};
 ghost use Rattle.std.specs.Option.{option_copied, option_map};
 ghost use Rattle.std.specs.Result.{result_ok};
-ghost use Rattle.minidump_memory.specs.Unified.{Memory, Memory64, unified_list};
+ghost use Rattle.minidump_memory.specs.Unified.{Memory64, plain_regions, unified_list};
 ghost use Rattle.minidump.specs.Dump.{Dump};
 ghost use Rattle.minidump.specs.DumpValue.{dump_of};
 ghost use Rattle.minidump.specs.Memory.{memories_of_dump};
@@ -59,7 +59,7 @@ fn read_memory64<'a>(dump: &Minidump<'a>, alloc: Global) -> Result<UnifiedMemory
 
 // Reads the plain list of memory, the stream of type MemoryListStream.
 fn read_memory<'a>(dump: &Minidump<'a>, alloc: Global) -> Result<UnifiedMemoryList<'a>, Error>
-    ensures { IsListOf memory_list_stream Memory (dump_of dump.now) result }
+    ensures { IsListOf memory_list_stream plain_regions (dump_of dump.now) result }
 {
     match dump.get_stream::<MinidumpMemoryList<'a>>(alloc) {
         Ok(list) => Ok(UnifiedMemoryList::Memory(list)),

@@ -1,5 +1,5 @@
 -- How many bits an address has, and what lies past the last one.
-use Rattle.std.proofs.Common.{◌≡◌, ℕ, zero, suc, ◌+◌, ◌-◌, ◌*◌, ◌<◌, ◌≤◌, ◌^◌, ◌⊎◌, inl, inr, Bool, true, false, Some, None, refl, ap, sym, arith}
+use Rattle.std.proofs.Common.{◌≡◌, ℕ, zero, suc, ◌+◌, ◌-◌, ◌*◌, ◌%◌, ◌<◌, ◌≤◌, ◌^◌, ◌⊎◌, inl, inr, Bool, true, false, Some, None, refl, ap, sym, arith}
 use Rattle.std.specs.Prelude.{nat_lt, if◌then◌else◌}
 use Rattle.std.specs.Int.{leading_zeros, w64}
 use Rattle.std.proofs.Math.Nat.{mod-eq_of_lt}
@@ -9,7 +9,7 @@ use Rattle.std.proofs.lemmas.Nat.{leading_length, pow-add, pow_below}
 use Rattle.minidump.specs.declared.system_info.PointerWidth.{PointerWidth}
 use Rattle.minidump.specs.declared.system_info.PointerWidth.TheVariants.{Bits32, Bits64, Unknown}
 use Rattle.minidump.specs.Below.Index.Digits.{digits}
-use Rattle.stack_walk.specs.Addresses.{address_after, is_address, unsigned}
+use Rattle.stack_walk.specs.Addresses.{address_after, is_address, is_in_upper_half, unsigned}
 
 -- ---- digits
 
@@ -47,11 +47,15 @@ digits_left none above below n small =
 
 -- a word of 64 bits has none above them
 pub all_bits : (bits word : ℕ) → word < 2 ^ 64 → 64 ≤ bits → word ≡ unsigned bits word
-all_bits bits word small many = by (cases_lt 64 bits)
+all_bits bits word small many = either (is_in_upper_half word) (by (cases_lt 64 bits))
   where
-    by : (64 < bits) ⊎ (bits ≤ 64) → word ≡ unsigned bits word
+    by : (64 < bits) ⊎ (bits ≤ 64) → word ≡ word % 2 ^ bits
     by (inl more) = sym (mod-eq_of_lt (omega (arith, pow_below 64 bits more, small)))
     by (inr few) = (let same : bits ≡ 64 = omega (arith, few, many) in rw same (sym (mod-eq_of_lt small)))
+
+    either : (b : Bool) → word ≡ word % 2 ^ bits → word ≡ (if b then word else word % 2 ^ bits)
+    either true same = refl
+    either false same = same
 
 -- ---- addresses after others
 

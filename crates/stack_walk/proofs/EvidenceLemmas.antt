@@ -1,23 +1,26 @@
 -- Each caller and each candidate has its evidence.
 use Rattle.std.proofs.Common.{◌≡◌, ◌∙◌, ℕ, ◌+◌, ◌-◌, ◌*◌, List, [], ◌∷◌, ◌++◌, true, Option, Some, None, refl, ap, sym, arith, inl, inr}
-use Rattle.std.specs.Prelude.{All, nat_le, slice_get, if◌then◌else◌}
+use Rattle.std.specs.Prelude.{All, Contains, nat_le, if◌then◌else◌}
 use Rattle.std.specs.List.{cons_option, filter_map, range_with_len}
 use Rattle.std.specs.Option.{option_and_then}
 use Rattle.std.proofs.lemmas.Bool.Decides.{nat_tests}
-use Rattle.std.proofs.lemmas.List.Elements.{All-append, All-cons, All-nil, All-take}
+use Rattle.std.proofs.lemmas.List.Elements.{All-append, All-cons, All-contains, All-nil, All-take}
 use Rattle.minidump.specs.declared.MinidumpContext.{MinidumpContext}
 use Rattle.minidump.specs.Below.System.Cpu.{pointer_bytes}
+use Rattle.stack_walk.specs.declared.frame.FrameTrust.{FrameTrust}
 use Rattle.stack_walk.specs.declared.frame.FrameTrust.TheVariants.{Link, Scan}
 use Rattle.stack_walk.specs.declared.frame.StackFrame.{StackFrame}
 use Rattle.stack_walk.specs.Addresses.{address_after, unsigned}
-use Rattle.stack_walk.specs.Evidence.{HasEvidence, IsFromLink, IsShown}
-use Rattle.stack_walk.specs.Frames.{AreCallers, AreFrames, StackValue, candidate_at, candidate_by, context_frame, firsts, lacks, link_candidate}
-use Rattle.stack_walk.specs.Frames.{link_candidate_at, link_frame, link_in, may_have_called, may_have_linked, pointer_at, return_at, scan}
+use Rattle.stack_walk.specs.Evidence.{HasEvidence, IsFromLink, IsShown, word_below}
+use Rattle.stack_walk.specs.Frames.{AreCallers, AreFrames, StackValue, candidate_at, candidate_by, context_frame, firsts, link_candidate}
+use Rattle.stack_walk.specs.Frames.{link_in, may_have_called, pointer_at, return_at, scan}
 use Rattle.stack_walk.specs.Frames.{word_candidate, word_candidates, words_above, words_below}
+use Rattle.stack_walk.specs.Link.{IsLinkCandidate}
 use Rattle.stack_walk.specs.Lookups.{call_site}
 use Rattle.stack_walk.proofs.AddressLemmas.{sum_after}
 use Rattle.stack_walk.proofs.CallerLemmas.{Record, has_record, mapped, passed, step}
 use Rattle.stack_walk.proofs.FoundLemmas.{All-firsts}
+use Rattle.stack_walk.proofs.LinkLemmas.{is_linked}
 
 -- a word below a stack pointer
 below : (address size : ℕ) → (if nat_le size (address + size) then Some (address + size - size) else None) ≡ Some address
@@ -81,48 +84,21 @@ of_candidate s number f e =
 
 -- ---- the link register
 
--- the candidate of the link register has its address
-by_link : (s : StackValue) (address : ℕ) (first f : StackFrame) → link_frame s address first ≡ Some f
-    → ◌≡◌ {A = StackFrame}
-    (record { instruction = address; stack_pointer = first.stack_pointer; frame_pointer = first.frame_pointer; trust = Link }) f
-by_link s address first f e =
-    let call =
-    step (λ call. if may_have_linked s call
-    then Some (record { instruction = address; stack_pointer = first.stack_pointer; frame_pointer = first.frame_pointer; trust = Link })
-    else None) (call_site s.cpu address) f e
-    in
-    let code =
-    passed (may_have_linked s call.0)
-    (Some (record { instruction = address; stack_pointer = first.stack_pointer; frame_pointer = first.frame_pointer; trust = Link })) f call.2
-    in
-    let same : ◌≡◌ {A = Option StackFrame}
-    (Some (record { instruction = address; stack_pointer = first.stack_pointer; frame_pointer = first.frame_pointer; trust = Link })) (Some f) =
-    code.1
-    in cc
-
+-- the candidate of the link register is from it
 of_link : (s : StackValue) (c : MinidumpContext) (frames : List StackFrame) (f : StackFrame) → link_candidate s (link_in c) frames ≡ Some f
     → IsFromLink s c f
-unfolding link_candidate
 of_link s c frames f e =
-    let word = step (λ word. link_candidate_at s frames (unsigned s.code_bits word)) (link_in c) f e in
-    let address = unsigned s.code_bits word.0 in
-    let lacking = passed (lacks frames address) (option_and_then (link_frame s address) (slice_get frames 0)) f word.2 in
-    let first = step (link_frame s address) (slice_get frames 0) f lacking.1 in
-    let is = by_link s address first.0 f first.2 in
-    record {
-      word = word.0;
-      trust = sym (ap (λ (g : StackFrame). g.trust) is);
-      is_link = word.1;
-      is_return = sym (ap (λ (g : StackFrame). g.instruction) is);
-    }
+    let is = is_linked s (link_in c) frames f e in
+    record { word = is.word; trust = is.trust; is_link = is.is_link; is_return = is.is_return }
 
--- ---- all frames
+-- a frame of its trust has no evidence in the stack
+none_of_link : (s : StackValue) (f : StackFrame) → HasEvidence s f → f.trust ≡ Link → ⊥
+none_of_link s f evidence trust =
+    let size = step (word_below f.trust f.stack_pointer) (pointer_bytes s.width) evidence.address evidence.is_address in
+    let none : ◌≡◌ {A = Option ℕ} None (Some evidence.address) = ap (λ (t : FrameTrust). word_below t f.stack_pointer size.0) (sym trust) ∙ size.2 in
+    cc
 
-in_stack : (s : StackValue) (c : MinidumpContext) (f : StackFrame) → HasEvidence s f → IsShown s c f
-in_stack s c f evidence = inl evidence
-
-in_link : (s : StackValue) (c : MinidumpContext) (f : StackFrame) → IsFromLink s c f → IsShown s c f
-in_link s c f from = inr from
+-- ---- all candidates
 
 one_more : {Y : Type 0} (P : Y → Type 0) (o : Option Y) (ys : List Y) → ((y : Y) → o ≡ Some y → P y) → All P ys → All P (cons_option o ys)
 one_more P None ys gives rest = rest
@@ -132,31 +108,49 @@ all_given : {X Y : Type 0} (P : Y → Type 0) (h : X → Option Y) → ((x : X) 
 all_given P h gives [] = All-nil P
 all_given P h gives (x ∷ xs) = one_more P (h x) (filter_map h xs) (gives x) (all_given P h gives xs)
 
+of_words : (P : StackFrame → Type 0) (s : StackValue) → ((f : StackFrame) → HasEvidence s f → P f) → (words : ℕ × ℕ)
+    → All P (word_candidates s words)
+of_words P s gives words =
+    all_given P (word_candidate s) (λ number f e. gives f (of_candidate s number f e)) (range_with_len words.0 words.1)
+
+-- what holds of a frame with evidence, and of the candidate of the link register, holds of each
+all_candidates : (P : StackFrame → Type 0) (s : StackValue) (link : Option ℕ) (frames : List StackFrame) (limit : ℕ)
+    → ((f : StackFrame) → HasEvidence s f → P f) → ((f : StackFrame) → link_candidate s link frames ≡ Some f → P f)
+    → All P (scan s link frames limit)
+all_candidates P s link frames limit by_word by_link =
+    let register = cons_option (link_candidate s link frames) [] in
+    let below = word_candidates s (words_below s frames) in
+    let above = word_candidates s (words_above s frames) in
+    All-take P limit (firsts ((register ++ below) ++ above))
+    (All-firsts P ((register ++ below) ++ above)
+    (All-append P (register ++ below) above
+    (All-append P register below (one_more P (link_candidate s link frames) [] by_link (All-nil P))
+    (of_words P s by_word (words_below s frames)))
+    (of_words P s by_word (words_above s frames))))
+
+-- only the candidate of the link register has its trust
+pub only_link : (s : StackValue) (link : Option ℕ) (frames : List StackFrame) (limit : ℕ) (f : StackFrame)
+    → Contains (scan s link frames limit) f → f.trust ≡ Link → IsLinkCandidate s link frames f
+only_link s link frames limit f there =
+    let P : StackFrame → Type 0 = λ g. g.trust ≡ Link → IsLinkCandidate s link frames g in
+    All-contains P (scan s link frames limit) f
+    (all_candidates P s link frames limit (λ g evidence trust. absurd (none_of_link s g evidence trust))
+    (λ g e trust. is_linked s link frames g e))
+    there
+
+-- ---- all frames
+
+in_stack : (s : StackValue) (c : MinidumpContext) (f : StackFrame) → HasEvidence s f → IsShown s c f
+in_stack s c f evidence = inl evidence
+
+in_link : (s : StackValue) (c : MinidumpContext) (f : StackFrame) → IsFromLink s c f → IsShown s c f
+in_link s c f from = inr from
+
 all_callers : (s : StackValue) (c : MinidumpContext) (f : StackFrame) (gs : List StackFrame) (last : StackFrame) → AreCallers s f gs last
     → All (IsShown s c) gs
 all_callers s c f [] last callers = All-nil (IsShown s c)
 all_callers s c f (g ∷ gs) last callers =
     All-cons (IsShown s c) g gs (in_stack s c g (of_caller s f g (has_record s f g callers.0))) (all_callers s c g gs last callers.1)
-
-of_words : (s : StackValue) (c : MinidumpContext) (words : ℕ × ℕ) → All (IsShown s c) (word_candidates s words)
-of_words s c words =
-    all_given (IsShown s c) (word_candidate s) (λ number f e. in_stack s c f (of_candidate s number f e)) (range_with_len words.0 words.1)
-
-of_register : (s : StackValue) (c : MinidumpContext) (frames : List StackFrame)
-    → All (IsShown s c) (cons_option (link_candidate s (link_in c) frames) [])
-of_register s c frames =
-    one_more (IsShown s c) (link_candidate s (link_in c) frames) [] (λ f e. in_link s c f (of_link s c frames f e)) (All-nil (IsShown s c))
-
-all_candidates : (s : StackValue) (c : MinidumpContext) (frames : List StackFrame) (limit : ℕ) → All (IsShown s c) (scan s (link_in c) frames limit)
-all_candidates s c frames limit =
-    let link = cons_option (link_candidate s (link_in c) frames) [] in
-    let below = word_candidates s (words_below s frames) in
-    let above = word_candidates s (words_above s frames) in
-    All-take (IsShown s c) limit (firsts ((link ++ below) ++ above))
-    (All-firsts (IsShown s c) ((link ++ below) ++ above)
-    (All-append (IsShown s c) (link ++ below) above
-    (All-append (IsShown s c) link below (of_register s c frames) (of_words s c (words_below s frames)))
-    (of_words s c (words_above s frames))))
 
 -- each frame but the first
 pub all_evidence : (s : StackValue) (c : MinidumpContext) (limit : ℕ) (first : StackFrame) (rest : List StackFrame)
@@ -167,4 +161,5 @@ all_evidence s c limit first rest x =
     let same : x.is_walk.callers ++ candidates ≡ rest = cc in
     rw (sym same)
     (All-append (IsShown s c) x.is_walk.callers candidates
-    (all_callers s c (context_frame c) x.is_walk.callers x.last x.is_walk.are_callers) (all_candidates s c x.walk limit))
+    (all_callers s c (context_frame c) x.is_walk.callers x.last x.is_walk.are_callers)
+    (all_candidates (IsShown s c) s (link_in c) x.walk limit (in_stack s c) (λ f e. in_link s c f (of_link s c x.walk f e))))

@@ -5,6 +5,7 @@ pub mod ContextLemmas
 pub mod WalkLemmas
 pub mod FramesLemmas
 pub mod UpLemmas
+pub mod LinkLemmas
 pub mod EvidenceLemmas
 pub mod ScanLemmas
 pub mod StackLemmas

@@ -1,5 +1,5 @@
 -- Which numbers are addresses, and which bits of a return address are the address.
-use Rattle.std.specs.Prelude.{ℕ, ◌+◌, ◌%◌, ◌^◌, max, nat_lt, Bool, List, map, Option, Some, None}
+use Rattle.std.specs.Prelude.{ℕ, ◌+◌, ◌/◌, ◌%◌, ◌^◌, ◌==◌, max, nat_lt, Bool, List, map, Option, Some, None}
 use Rattle.std.specs.Prelude.{if◌then◌else◌}
 use Rattle.std.specs.List.{fold}
 use Rattle.minidump.specs.declared.system_info.Cpu.{Cpu}
@@ -23,9 +23,15 @@ unfoldable pub address_after : PointerWidth → ℕ → ℕ → Option ℕ
 address_after width address size =
     if is_address width (address + size) then Some (address + size) else None
 
+-- the last address of a module: 0 if it has none, or one beyond the largest space of addresses that a
+-- process of ARM64 has, of 52 bits
+abbrev pub last_of_module : ModuleValue → ℕ
+last_of_module m = if nat_lt (last_address range_of_module m) (2 ^ 52)
+    then last_address range_of_module m else 0
+
 -- the last address of all modules, or 0 if none has one
 abbrev pub last_code : List ModuleValue → ℕ
-last_code modules = fold max 0 (map (last_address range_of_module) modules)
+last_code modules = fold max 0 (map last_of_module modules)
 
 -- how many bits the smallest space of addresses of a system has on ARM64: 47 on Windows and macOS, 39 on
 -- iOS, and 36 on Linux, as its kernel may be built (CONFIG_ARM64_VA_BITS_36)
@@ -42,6 +48,12 @@ abbrev pub code_bits : Os → Cpu → List ModuleValue → ℕ
 code_bits os cpu.Arm64 modules = max (least_bits os) (digits (last_code modules))
 code_bits os _ modules = 64
 
--- the address of a return address that may be signed: so many low bits of it
+-- whether a word is an address of the upper half, the kernel's: bit 55 tells the halves of the addresses
+-- of ARM64 apart, and no signature changes it
+abbrev pub is_in_upper_half : ℕ → Bool
+is_in_upper_half word = word / 2 ^ 55 % 2 == 1
+
+-- the address of a return address that may be signed: so many low bits of it. One of the upper half,
+-- which no process has, stays as it is
 abbrev pub unsigned : ℕ → ℕ → ℕ
-unsigned bits word = word % 2 ^ bits
+unsigned bits word = if is_in_upper_half word then word else word % 2 ^ bits

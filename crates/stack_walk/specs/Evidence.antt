@@ -15,7 +15,7 @@ use Rattle.stack_walk.specs.Frames.{StackValue, link_in, pointer_at}
 -- the address of the word below the stack pointer of a caller or a candidate: none of a context,
 -- nor of a frame by rules, whose return address may stand elsewhere or in a register, nor of that of
 -- the link register
-abbrev word_below : FrameTrust → ℕ → ℕ → Option ℕ
+abbrev pub word_below : FrameTrust → ℕ → ℕ → Option ℕ
 word_below Context stack_pointer size = None
 word_below Cfi stack_pointer size = None
 word_below FramePointer stack_pointer size = if nat_le size stack_pointer

@@ -6,5 +6,6 @@ pub mod Frames
 pub mod WalkEnd
 pub mod Walk
 pub mod Evidence
+pub mod Link
 pub mod Found
 pub mod Threads

@@ -1,18 +1,18 @@
 ghost use Rattle.std.specs.Prelude.{◌≡◌, ◌+◌, IfSome, map};
 ghost use Rattle.minidump.specs.Below.Index.Digits.{digits};
-ghost use Rattle.minidump.specs.Below.Index.Lookup.{last_address};
-ghost use Rattle.minidump.specs.Below.Modules.Module.{module_of, range_of_module};
+ghost use Rattle.minidump.specs.Below.Modules.Module.{module_of};
 ghost use Rattle.minidump.specs.Promise.{module_list_stream};
 ghost use Rattle.stack_walk.specs.Addresses.{address_after, code_bits, is_address, last_code};
-ghost use Rattle.stack_walk.specs.Addresses.{least_bits};
+ghost use Rattle.stack_walk.specs.Addresses.{is_in_upper_half, last_of_module, least_bits};
 
 use minidump::system_info::{Cpu, Os, PointerWidth};
 use minidump::{MinidumpModule, MinidumpModuleList, Region};
 
 /// Returns how many of the low bits of a return address are its address. ARM64 may sign a return
 /// address, by bits above those of any address: these are as many as the last address of all modules
-/// has, but at least 47 on Windows and macOS, 39 on iOS, and else 36, the fewest that Linux has. Other
-/// processors sign none: they have 64.
+/// has, but at least 47 on Windows and macOS, 39 on iOS, and else 36, the fewest that Linux has. A
+/// module beyond 2^52, where no process has one, is passed over. Other processors sign none: they have
+/// 64.
 pub fn code_bits(os: Os, cpu: Cpu, modules: &MinidumpModuleList) -> u32
     ensures { result ≡ code_bits os cpu (module_list_stream.value modules.now) }
 {
@@ -47,18 +47,18 @@ fn last_code(modules: &[MinidumpModule]) -> u64
 {
     let mut last = 0;
     for next in modules {
-        last = last_address(next).max(last);
+        last = last_of_module(next).max(last);
     }
     last
 }
 
-// Returns the last address of a module, or 0 if it has none.
-fn last_address(of: &MinidumpModule) -> u64
-    ensures { result ≡ last_address range_of_module (module_of of.now) }
+// Returns the last address of a module, or 0 if it has none, or one that no process has.
+fn last_of_module(of: &MinidumpModule) -> u64
+    ensures { result ≡ last_of_module (module_of of.now) }
 {
     match of.memory_range() {
-        Some(range) => range.end,
-        None => 0,
+        Some(range) if range.end < 1 << 52 => range.end,
+        _ => 0,
     }
 }
 
@@ -71,6 +71,13 @@ pub fn is_address(width: PointerWidth, number: u64) -> bool
         PointerWidth::Bits32 => number < 1 << 32,
         PointerWidth::Bits64 | PointerWidth::Unknown => true,
     }
+}
+
+// Tells whether a word is an address of the upper half of those of ARM64, the kernel's.
+pub(crate) fn is_in_upper_half(word: u64) -> bool
+    ensures { result ≡ is_in_upper_half word }
+{
+    word / (1 << 55) % 2 == 1
 }
 
 // Returns the address so many bytes after another, or `None` if there is none.

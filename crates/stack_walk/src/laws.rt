@@ -1,5 +1,5 @@
 //! Laws of frames, over the definitions that the contract of [`crate::frames`] names.
-ghost use Rattle.std.specs.Prelude.{◌≡◌, ◌↔◌, ◌≤◌, ◌+◌, ◌-◌, ◌*◌, ◌==◌, ℕ, All, Contains, List, ◌∷◌};
+ghost use Rattle.std.specs.Prelude.{◌≡◌, ◌↔◌, ◌<◌, ◌≤◌, ◌+◌, ◌-◌, ◌*◌, ◌==◌, ℕ, All, Contains, List, ◌∷◌};
 ghost use Rattle.std.specs.Prelude.{Option, Some, length, map, slice_get};
 ghost use Rattle.std.specs.List.{IsDistinct};
 ghost use Rattle.minidump.specs.declared.MinidumpContext.{MinidumpContext};
@@ -9,9 +9,10 @@ ghost use Rattle.stack_walk.specs.Evidence.{IsShown};
 ghost use Rattle.minidump.specs.Below.Contexts.Context.{registers_of, value_in};
 ghost use Rattle.minidump.specs.declared.MinidumpRawContext.{MinidumpRawContext};
 ghost use Rattle.stack_walk.specs.Frames.{AreFrames, StackValue, instruction_pointer_in, scan, stack_bytes};
-ghost use Rattle.stack_walk.specs.Frames.{stack_pointer_in, word_candidate};
+ghost use Rattle.stack_walk.specs.Frames.{link_candidate, stack_pointer_in, word_candidate};
+ghost use Rattle.stack_walk.specs.Link.{IsLinkCandidate};
 ghost use Rattle.stack_walk.specs.Walk.{frames_in};
-ghost use Rattle.stack_walk.specs.declared.frame.FrameTrust.TheVariants.{FramePointer};
+ghost use Rattle.stack_walk.specs.declared.frame.FrameTrust.TheVariants.{FramePointer, Link};
 ghost use Rattle.stack_walk.specs.declared.frame.StackFrame.{StackFrame};
 
 use crate::{FrameTrust, StackFrame, WalkEnd};
@@ -74,6 +75,21 @@ pub fn each_aligned_word_is_scanned()
 pub fn each_return_address_is_once()
     ensures { (s : StackValue) (link : Option ℕ) (frames : List StackFrame) (limit : ℕ)
         → IsDistinct ◌==◌ (map (λ g. g.instruction) (scan s link frames limit)) }
+{}
+
+/// The candidate of the link register is the frame of `IsLinkCandidate`: its return address is the
+/// register, a call may return to it, and the first caller, if there is one, isn't found by rules and
+/// has another return address. It is the first candidate, if any is asked for, and the only one of
+/// [`FrameTrust::Link`].
+pub fn the_link_register_comes_first()
+    ensures exact { (s : StackValue) (link : Option ℕ) (frames : List StackFrame) (f : StackFrame)
+        → IsLinkCandidate s link frames f ↔ (link_candidate s link frames ≡ Some f) }
+    ensures first { (s : StackValue) (link : Option ℕ) (frames : List StackFrame) (limit : ℕ)
+        (f : StackFrame) → IsLinkCandidate s link frames f → 0 < limit
+        → slice_get (scan s link frames limit) 0 ≡ Some f }
+    ensures only { (s : StackValue) (link : Option ℕ) (frames : List StackFrame) (limit : ℕ)
+        (f : StackFrame) → Contains (scan s link frames limit) f → f.trust ≡ Link
+        → IsLinkCandidate s link frames f }
 {}
 
 /// A frame equals the same frame alone, and a clone of it is the same frame. The same holds of how

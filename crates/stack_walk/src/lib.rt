@@ -28,6 +28,9 @@
 //! - The scan takes the first candidates, as many as are asked for, and leaves out no return address
 //!   if that is enough: [`laws::each_aligned_word_is_scanned`]. None is there twice:
 //!   [`laws::each_return_address_is_once`].
+//! - The candidate of the link register comes first, where a call may return to it and the first
+//!   caller, if there is one, isn't found by rules and has another return address. No other candidate
+//!   is of [`FrameTrust::Link`]: [`laws::the_link_register_comes_first`].
 //! - The module of a frame and the offset in it are looked up by the instruction pointer of a
 //!   context, or by the address below a return address, whose bit for Thumb code is cleared first on
 //!   ARM: [`StackFrame::module`], [`StackFrame::module_offset`]. [`module_place`] gives the index of
@@ -56,7 +59,7 @@ pub use addresses::{code_bits, is_address};
 pub use end::WalkEnd;
 pub use frame::{FrameTrust, StackFrame};
 pub use link::link_of;
-pub use lookups::module_place;
+pub use lookups::{is_code, module_place};
 use minidump::{Error, MinidumpContext};
 pub use stack::Stack;
 use std::alloc::Global;
@@ -90,7 +93,8 @@ pub use walk::{Walk, walk_stack};
 /// A module contains a return address if it contains the address below it, which lies in the call.
 /// On ARM of 32 bits bit 0 of the return address is cleared first. On ARM64, whose functions may sign
 /// a return address, a word of the stack and the link register are read without the bits above those
-/// of [`code_bits`], and the frame has the address that is left. The only error is `OutOfMemory`.
+/// of [`code_bits`], and the frame has the address that is left. One whose bit 55 is set is read as it
+/// is: no address of a process has that bit. The only error is `OutOfMemory`.
 pub fn frames(
     alloc: Global,
     stack: &Stack<'_, '_>,

@@ -42,8 +42,8 @@ pub fn module_place(modules: &MinidumpModuleList, address: u64) -> Option<(usize
     Some((index, address.saturating_sub(module.base_address())))
 }
 
-// Tells whether a kept module contains an address.
-pub(crate) fn is_code(modules: &MinidumpModuleList, address: u64) -> bool
+/// Tells whether a kept module contains an address.
+pub fn is_code(modules: &MinidumpModuleList, address: u64) -> bool
     ensures { result ≡ is_code (module_list_stream.value modules.now) address }
 {
     modules.module_at_address(address).is_some()

@@ -2,7 +2,7 @@ ghost use Rattle.std.specs.Prelude.{◌≡◌};
 ghost use Rattle.stack_walk.specs.Addresses.{unsigned};
 ghost use Rattle.stack_walk.specs.Frames.{caller_at, caller_of, pointer_at, return_at, stack_of};
 
-use crate::addresses::address_after;
+use crate::addresses::{address_after, is_in_upper_half};
 use crate::lookups::{call_site, is_code};
 use crate::{FrameTrust, StackFrame};
 use minidump::system_info::{Cpu, PointerWidth};
@@ -46,14 +46,15 @@ impl Stack<'_, '_> {
     }
 
     /// Returns the address of a word that is read as a return address: the word without the bits by
-    /// which ARM64 may sign it.
+    /// which ARM64 may sign it. No address of a process has bit 55 set: a word that has it stays as
+    /// it is.
     #[tactic(auto, using(crate::proofs::AddressLemmas::all_bits))]
     pub fn return_address(&self, word: u64) -> u64
         ensures { result ≡ unsigned (stack_of self.now).code_bits word }
     {
         match 1u64.checked_shl(self.code_bits) {
-            Some(limit) => word % limit,
-            None => word,
+            Some(limit) if !is_in_upper_half(word) => word % limit,
+            _ => word,
         }
     }
 
