@@ -1,5 +1,5 @@
 -- The contents of a minidump: the value of each stream, or the error for which there is none.
-use Rattle.std.specs.Prelude.{ℕ, List, [], length, map, Option, Result, unwrap_or}
+use Rattle.std.specs.Prelude.{ℕ, List, length, map, Option, Result}
 use Rattle.std.specs.Option.{option_map, option_map_or}
 use Rattle.std.specs.Result.{result_err, result_ok}
 use Rattle.minidump.specs.declared.Error.{Error}
@@ -11,12 +11,13 @@ use Rattle.minidump.specs.Below.Contexts.Context.{map_ok}
 use Rattle.minidump.specs.Below.MemoryLists.Unified.{UnifiedRegions, unified_list}
 use Rattle.minidump.specs.Below.MemoryLists.UnifiedInfo.{InfoRegions, info_list}
 use Rattle.minidump.specs.Below.Modules.Module.{ModuleValue}
+use Rattle.minidump.specs.Below.Modules.ModuleList.{module_list_of}
 use Rattle.minidump.specs.Below.Modules.UnloadedModule.{UnloadedValue}
 use Rattle.minidump.specs.Below.Records.BootArgs.{BootArgs}
 use Rattle.minidump.specs.Below.Records.Crashpad.{Crashpad}
 use Rattle.minidump.specs.Below.Records.Handles.{Handle}
 use Rattle.minidump.specs.Below.Records.Record.{MacRecord}
-use Rattle.minidump.specs.Below.Records.ThreadNames.{ThreadName}
+use Rattle.minidump.specs.Below.Records.ThreadNames.{ThreadNames}
 use Rattle.minidump.specs.Below.Stability.StabilityReport.{Report}
 use Rattle.minidump.specs.Below.System.System.{System}
 use Rattle.minidump.specs.Dump.{Dump, stream_of}
@@ -33,7 +34,7 @@ use Rattle.minidump.specs.Promise.{mac_bootargs_stream, soft_errors_stream, stab
 use Rattle.minidump.specs.Promise.{handle_data_stream, linux_proc_status_stream, linux_environ_stream}
 use Rattle.minidump.specs.Promise.{linux_proc_limits_stream}
 use Rattle.stack_walk.specs.Addresses.{code_bits}
-use Rattle.crash.specs.Space.{first_infos, first_memory, regions_outside_of}
+use Rattle.crash.specs.Space.{first_infos, first_memory, listed_or_none, regions_outside_of}
 use Rattle.crash.specs.declared.contents.SystemStreams.{SystemStreams}
 use Rattle.crash.specs.declared.contents.ThreadStreams.{ThreadStreams}
 use Rattle.crash.specs.declared.space.SpaceStreams.{SpaceStreams}
@@ -74,7 +75,7 @@ system_streams_of s = record {
 pub record ThreadStreamValues : Type 0 where
   pub exceptions : List (Result Exception Error)
   pub threads : Result (List Thread) Error
-  pub names : Result (List ThreadName) Error
+  pub names : Result ThreadNames Error
   pub infos : Result (List MINIDUMP_THREAD_INFO) Error
 
 -- those of a dump
@@ -95,11 +96,13 @@ thread_streams_of s = record {
   infos = map_ok thread_info_list_stream.value s.infos;
 }
 
--- the streams of the address space: the memory and what is known of its regions, by the first
--- stream that can be read, the errors of both, how many regions of the plain list of memory are outside
--- the file, and how many lines the maps have
+-- the streams of the address space: the modules, and how many entries of their list have no
+-- addresses, the memory and what is known of its regions, by the first stream that can be read, the
+-- errors of both, how many regions of the plain list of memory are outside the file, and how many lines
+-- the maps have
 pub record SpaceStreamValues : Type 0 where
   pub modules : List ModuleValue
+  pub without_addresses : ℕ
   pub modules_error : Option Error
   pub unloaded : Result (List UnloadedValue) Error
   pub memory : UnifiedRegions
@@ -112,7 +115,8 @@ pub record SpaceStreamValues : Type 0 where
 -- those of a dump
 abbrev pub space_streams_in : Dump → SpaceStreamValues
 space_streams_in d = record {
-  modules = unwrap_or (result_ok (stream_of module_list_stream d)) [];
+  modules = (listed_or_none (stream_of module_list_stream d)).modules;
+  without_addresses = (listed_or_none (stream_of module_list_stream d)).without_addresses;
   modules_error = result_err (stream_of module_list_stream d);
   unloaded = stream_of unloaded_module_list_stream d;
   memory = first_memory (stream_of memory64_list_stream d) (stream_of memory_list_stream d);
@@ -132,7 +136,8 @@ space_streams_in d = record {
 -- those of a `SpaceStreams`
 abbrev pub space_streams_of : SpaceStreams → SpaceStreamValues
 space_streams_of s = record {
-  modules = module_list_stream.value s.modules;
+  modules = module_list_of s.modules;
+  without_addresses = (module_list_stream.value s.modules).without_addresses;
   modules_error = s.modules_error;
   unloaded = map_ok unloaded_module_list_stream.value s.unloaded;
   memory = unified_list s.memory;

@@ -12,7 +12,7 @@ use Rattle.crash.specs.declared.crash.Findings.{Findings}
 use Rattle.crash.specs.declared.damage.Damage.{Damage}
 use Rattle.crash.specs.Cause.{CauseValue, cause_in, cause_of}
 use Rattle.crash.specs.Contents.{ContentsValue, contents_in, contents_of}
-use Rattle.crash.specs.Damage.{damage_by}
+use Rattle.crash.specs.Damage.{counted_damage, damage_by}
 use Rattle.crash.specs.Directory.{DirectoryValue, directory_in, directory_of}
 use Rattle.crash.specs.Modules.{ModulesValue, modules_in, modules_of}
 use Rattle.crash.specs.Point.{PointValue, point_in, point_of}
@@ -57,9 +57,10 @@ crash_of_findings c f = record {
 }
 
 -- what is there and can't be read
-abbrev pub damage_in : ContentsValue → DirectoryValue → CauseValue → ThreadsValue → List Damage
-damage_in c directory cause threads =
-    damage_by directory.entries c.space.regions_outside cause.exceptions threads.threads
+abbrev pub damage_in : Dump → ContentsValue → DirectoryValue → ProcessFacts → CauseValue
+    → ThreadsValue → List Damage
+damage_in d c directory process cause threads = damage_by directory.entries
+    (counted_damage d c process.comments) cause.exceptions threads.threads
 
 -- the crash of a dump, by its contents and by what is found in them
 abbrev crash_with : Dump → ContentsValue → DirectoryValue → CauseValue → ThreadsValue → CrashValue
@@ -71,7 +72,7 @@ crash_with d c directory cause threads = record {
   threads = threads;
   point = point_in c threads.crashing;
   modules = modules_in d c;
-  damage = damage_in c directory cause threads;
+  damage = damage_in d c directory (process_in d c) cause threads;
 }
 
 -- the crash of a dump with these contents

@@ -1,24 +1,49 @@
 -- What is there in a dump and can't be read, whether anything else stands in for it or not.
-use Rattle.std.specs.Prelude.{ℕ, ◌-◌, ◌==◌, ◌++◌, Bool, false, true, List, [], length, take, Option, Some}
+use Rattle.std.specs.Prelude.{ℕ, ◌-◌, ◌==◌, ◌++◌, Bool, false, true, List, [], ◌∷◌, length, take, Option, Some}
 use Rattle.std.specs.Prelude.{None, Result, Ok, Err, if◌then◌else◌}
-use Rattle.std.specs.List.{cons_option, filter_map}
+use Rattle.std.specs.List.{filter_map}
 use Rattle.std.specs.Option.{option_map}
 use Rattle.minidump.specs.declared.Error.{Error}
+use Rattle.minidump.specs.Dump.{Dump}
+use Rattle.minidump.specs.Promise.{assertion_stream, handle_data_stream, mac_bootargs_stream}
+use Rattle.minidump.specs.Promise.{system_info_stream, thread_names_stream}
 use Rattle.crash.specs.declared.contexts.ContextProblem.{ContextProblem}
 use Rattle.crash.specs.declared.contexts.ContextProblem.TheVariants.{Outside}
 use Rattle.crash.specs.declared.damage.Damage.{Damage}
 use Rattle.crash.specs.declared.damage.Damage.TheVariants as damage
 use Rattle.crash.specs.declared.directory.StreamEntry.{StreamEntry}
 use Rattle.crash.specs.Cause.{ExceptionValue}
+use Rattle.crash.specs.Contents.{ContentsValue}
+use Rattle.crash.specs.ProcessTexts.{CommentsValue}
+use Rattle.crash.specs.Texts.{assertion_lacking, boot_args_lacking, comment_lacking, handles_lacking}
+use Rattle.crash.specs.Texts.{system_lacking, threads_lacking}
 use Rattle.crash.specs.Threads.{ThreadValue}
 
 -- a stream that can't be read
 abbrev pub stream_damage : StreamEntry → Option Damage
 stream_damage e = option_map (λ error. damage.Stream e.number error) e.error
 
--- the regions of the plain list of memory that are outside the file, where there are any
-abbrev pub regions_damage : ℕ → Option Damage
-regions_damage count = if count == 0 then None else Some (damage.Regions count)
+-- damage, where there is any
+abbrev pub if_any : ℕ → Damage → Option Damage
+if_any count d = if count == 0 then None else Some d
+
+-- the texts of a stream that can't be read, by its type, where there are any
+abbrev pub texts_damage : ℕ → ℕ → Option Damage
+texts_damage number count = if_any count (damage.Texts number count)
+
+-- what is told by its number: regions outside the file, modules without addresses, and texts by their
+-- streams, ascending by type
+abbrev pub counted_damage : Dump → ContentsValue → CommentsValue → List (Option Damage)
+counted_damage d c comments =
+    if_any c.space.regions_outside (damage.Regions c.space.regions_outside)
+    ∷ if_any c.space.without_addresses (damage.Modules c.space.without_addresses)
+    ∷ texts_damage system_info_stream.stream_type (system_lacking c.system.system)
+    ∷ texts_damage 11 (comment_lacking d comments)
+    ∷ texts_damage handle_data_stream.stream_type (handles_lacking c.process.handles)
+    ∷ texts_damage thread_names_stream.stream_type (threads_lacking c.threads.names)
+    ∷ texts_damage assertion_stream.stream_type (assertion_lacking c.messages.assertion)
+    ∷ texts_damage mac_bootargs_stream.stream_type (boot_args_lacking c.messages.mac_boot_args)
+    ∷ []
 
 -- an exception that can't be read
 abbrev pub exception_error : Result ExceptionValue Error → Option Damage
@@ -49,11 +74,12 @@ context_damage t =
 abbrev pub stack_damage : ThreadValue → Option Damage
 stack_damage t = if t.is_stack_outside then Some (damage.Stack t.id) else None
 
--- all of them: streams, regions of memory, exceptions, contexts of exceptions, contexts of threads, and stacks
-abbrev pub damage_by : List StreamEntry → ℕ → List (Result ExceptionValue Error) → List ThreadValue
-    → List Damage
-damage_by entries regions exceptions threads = filter_map stream_damage entries
-    ++ (cons_option (regions_damage regions) []
+-- all of them: streams, what is told by its number, exceptions, contexts of exceptions, contexts of
+-- threads, and stacks
+abbrev pub damage_by : List StreamEntry → List (Option Damage) → List (Result ExceptionValue Error)
+    → List ThreadValue → List Damage
+damage_by streams counted exceptions threads = filter_map stream_damage streams
+    ++ (filter_map (λ d. d) counted
     ++ (filter_map exception_error (before_last exceptions)
     ++ (filter_map exception_damage exceptions
     ++ (filter_map context_damage threads ++ filter_map stack_damage threads))))

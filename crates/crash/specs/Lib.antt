@@ -22,5 +22,6 @@ pub mod SetFlags
 pub mod Point
 pub mod UnreadableModules
 pub mod Modules
+pub mod Texts
 pub mod Damage
 pub mod Crash

@@ -13,7 +13,7 @@ use Rattle.minidump.specs.declared.system_info.Os.TheVariants.{Windows}
 use Rattle.minidump.specs.Below.MemoryLists.Unified.{UnifiedRegions}
 use Rattle.minidump.specs.Below.Reasons.Names.{Lists}
 use Rattle.minidump.specs.Below.Reasons.ReasonText.{reason_text}
-use Rattle.minidump.specs.Below.Records.ThreadNames.{ThreadName, name_of_thread}
+use Rattle.minidump.specs.Below.Records.ThreadNames.{ThreadNames, name_of_thread}
 use Rattle.minidump.specs.Crash.{error_in, last_with}
 use Rattle.minidump.specs.Exception.{Exception}
 use Rattle.minidump.specs.Thread.{Thread, last_error_address}
@@ -78,8 +78,8 @@ short_context t = option_and_then (λ c. c.short) t.context
 -- ---- what is known of a thread
 
 -- the name of the thread of an id
-abbrev pub name_in : Result (List ThreadName) Error → ℕ → Option (List ℕ)
-name_in names id = option_and_then (λ names. name_of_thread names id) (result_ok names)
+abbrev pub name_in : Result ThreadNames Error → ℕ → Option (List ℕ)
+name_in names id = option_and_then (λ all. name_of_thread all.names id) (result_ok names)
 
 -- the last error of a thread on an operating system: Windows alone keeps it, in the thread's environment
 -- block. Elsewhere what a record calls that block is none

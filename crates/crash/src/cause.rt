@@ -144,11 +144,8 @@ struct EachException<'l, 'a, 'n> {
 impl<'a> MakeItem<Result<MinidumpException<'a>, Error>> for EachException<'_, 'a, '_> {
     ghost use Rattle.std.specs.Prelude.{Result};
     ghost use Rattle.minidump.specs.declared.Error.{Error};
-    ghost use Rattle.minidump.specs.Below.Contexts.Context.{map_ok};
     ghost use Rattle.minidump.specs.Exception.{Exception};
-    ghost use Rattle.minidump.specs.Promise.{exception_stream};
-    ghost use Rattle.crash.specs.Cause.{ExceptionValue, exception_in, exception_of};
-    ghost use Rattle.crash.specs.Contents.{contents_of};
+    ghost use Rattle.crash.specs.Cause.{ExceptionValue};
 
     type Made = Result<CrashException, Error>;
 

@@ -1,7 +1,8 @@
 ghost use Rattle.std.specs.Prelude.{◌≡◌, IfOk, IsOkUnless};
 ghost use Rattle.minidump.specs.Below.Contexts.Context.{map_ok};
+ghost use Rattle.minidump.specs.Below.Modules.ModuleList.{module_list_of};
 ghost use Rattle.minidump.specs.DumpValue.{dump_of};
-ghost use Rattle.minidump.specs.Promise.{module_list_stream, system_info_stream};
+ghost use Rattle.minidump.specs.Promise.{system_info_stream};
 ghost use Rattle.crash.specs.Contents.{code_bits_in, contents_in, contents_of};
 ghost use Rattle.crash.specs.Contents.{message_streams_in, message_streams_of};
 ghost use Rattle.crash.specs.Contents.{process_streams_in, process_streams_of};
@@ -123,7 +124,7 @@ pub(crate) fn read_contents<'a>(alloc: Global, dump: &Minidump<'a>) -> Result<Co
 // Returns how many of the low bits of a return address are its address.
 fn code_bits_of(system: &Result<MinidumpSystemInfo, Error>, modules: &MinidumpModuleList) -> u32
     ensures { result ≡ code_bits_in (map_ok system_info_stream.value system.now)
-        (module_list_stream.value modules.now) }
+        (module_list_of modules.now) }
 {
     match system {
         Ok(system) => code_bits(system.os, system.cpu, modules),

@@ -17,7 +17,7 @@ ghost use Rattle.crash.specs.Threads.{threads_in, threads_of};
 
 use crate::cause::{CrashCause, cause_of};
 use crate::contents::{Contents, read_contents};
-use crate::damage::{Damage, damage_of};
+use crate::damage::{Damage, counted_damage, damage_of};
 use crate::directory::{CrashDirectory, directory_of};
 use crate::modules::{CrashModules, modules_of};
 use crate::point::{CrashPoint, point_of};
@@ -25,7 +25,7 @@ use crate::process::{CrashProcess, process_of};
 use crate::threads::{CrashThreads, threads_of, walked_at};
 use minidump::{CodeNames, Error, Minidump, MinidumpContext};
 use stack_walk::Stack;
-use std::alloc::{AllocError, Global};
+use std::alloc::Global;
 
 /// What a minidump says of a crash.
 #[derive(Drop)]
@@ -44,8 +44,9 @@ pub struct Crash<'a> {
     pub point: Option<CrashPoint<'a>>,
     /// Its modules.
     pub modules: CrashModules,
-    /// What is there and can't be read: streams, ascending by type, then regions of memory, exceptions,
-    /// contexts of exceptions, own contexts of threads, and stacks, each in the order of its list.
+    /// What is there and can't be read: streams, ascending by type, then what is told by its number
+    /// (regions of memory, modules and texts), exceptions, contexts of exceptions, own contexts of
+    /// threads, and stacks, each in the order of its list.
     pub damage: Vec<Damage>,
 }
 
@@ -152,7 +153,9 @@ fn findings_in<'a>(
 {
     let (directory, process, modules) = dump_parts(alloc, file, dump, contents)?;
     let (cause, threads, point) = thread_parts(alloc, contents, names, scan)?;
-    let damage = damage_in(alloc, contents, &directory, &cause, &threads)?;
+    let damage = damage_in(
+        alloc, dump, contents, &directory, &process, &cause, &threads,
+    )?;
     Ok(Findings {
         directory,
         process,
@@ -209,19 +212,24 @@ fn thread_parts<'a>(
 // Returns what is there and can't be read.
 fn damage_in(
     alloc: Global,
+    dump: &Minidump<'_>,
     contents: &Contents<'_>,
     directory: &CrashDirectory,
+    process: &CrashProcess,
     cause: &CrashCause,
     threads: &CrashThreads,
-) -> Result<Vec<Damage>, AllocError>
-    ensures { IfOk result (λ damage. damage.items ≡ damage_in (contents_of contents.now)
-        (directory_of directory.now) (cause_of cause.now) (threads_of threads.now)) }
+) -> Result<Vec<Damage>, Error>
+    ensures damage { IfOk result (λ damage. damage.items
+        ≡ damage_in (dump_of dump.now) (contents_of contents.now) (directory_of directory.now)
+        (process_of process.now) (cause_of cause.now) (threads_of threads.now)) }
+    ensures memory { IsOkUnless result Error.OutOfMemory }
 {
-    damage_of(
+    let counted = counted_damage(alloc, dump, contents, &process.comments)?;
+    Ok(damage_of(
         alloc,
         directory.entries.as_slice(),
-        contents.space.regions_outside,
+        &counted,
         cause.exceptions.as_slice(),
         threads.threads.as_slice(),
-    )
+    )?)
 }

@@ -1,15 +1,28 @@
-ghost use Rattle.std.specs.Prelude.{◌≡◌, ◌-◌, IfOk, length, map, take};
+ghost use Rattle.std.specs.Prelude.{◌≡◌, ◌-◌, IfOk, IsOkUnless, length, map, take};
 ghost use Rattle.minidump.specs.Below.Contexts.Context.{map_ok};
+ghost use Rattle.minidump.specs.DumpValue.{dump_of};
 ghost use Rattle.crash.specs.Cause.{exception_of};
-ghost use Rattle.crash.specs.Damage.{context_damage, damage_by, exception_damage, exception_error};
-ghost use Rattle.crash.specs.Damage.{is_outside, regions_damage, stack_damage, stream_damage};
+ghost use Rattle.crash.specs.Contents.{contents_of};
+ghost use Rattle.crash.specs.Damage.{context_damage, counted_damage, damage_by, exception_damage};
+ghost use Rattle.crash.specs.Damage.{exception_error, if_any, is_outside, stack_damage};
+ghost use Rattle.crash.specs.Damage.{stream_damage, texts_damage};
+ghost use Rattle.crash.specs.ProcessTexts.{comments_of};
 ghost use Rattle.crash.specs.Threads.{thread_value};
 
 use crate::cause::CrashException;
+use crate::contents::Contents;
 use crate::contexts::ContextProblem;
 use crate::directory::StreamEntry;
+use crate::process_texts::Comments;
+use crate::texts::{
+    assertion_lacking, boot_args_lacking, comment_lacking, handles_lacking, system_lacking,
+    threads_lacking,
+};
 use crate::threads::CrashThread;
-use minidump::Error;
+use minidump::{
+    Error, Minidump, MinidumpAssertion, MinidumpHandleDataStream, MinidumpMacBootargs,
+    MinidumpStream, MinidumpSystemInfo, MinidumpThreadNames,
+};
 use std::alloc::{AllocError, Global};
 
 /// Something of a dump that is there and can't be read, whether anything else stands in for it or
@@ -27,6 +40,22 @@ pub enum Damage {
     /// Regions of the plain list of memory (MemoryListStream) whose bytes are not all in the file. The
     /// memory has none of them.
     Regions {
+        /// How many there are.
+        count: u64,
+    },
+    /// Entries of the list of modules (ModuleListStream) that have no addresses: their size is 0, or
+    /// their end is beyond 2^64. The modules have none of them.
+    Modules {
+        /// How many there are.
+        count: u64,
+    },
+    /// Texts of a stream: none is where an entry names one by an RVA other than 0, or a surrogate of its
+    /// UTF-16 lacks its partner. They are the text of the service pack (SystemInfoStream), the comment
+    /// of CommentStreamW, the names of handles, of their types and of threads, those of an assertion,
+    /// and the arguments of macOS's boot. Such a text is absent; a thread may have an earlier name.
+    Texts {
+        /// The number of the stream's type.
+        number: u32,
         /// How many there are.
         count: u64,
     },
@@ -54,23 +83,23 @@ pub enum Damage {
     },
 }
 
-// Returns what can't be read: streams, regions of memory, exceptions, contexts of exceptions, contexts
-// of threads and stacks.
+// Returns what can't be read: streams, what is told by its number, exceptions, contexts of exceptions,
+// contexts of threads and stacks.
 pub(crate) fn damage_of(
     alloc: Global,
-    entries: &[StreamEntry],
-    regions: u64,
+    streams: &[StreamEntry],
+    counted: &[Option<Damage>],
     exceptions: &[Result<CrashException, Error>],
     threads: &[CrashThread],
 ) -> Result<Vec<Damage>, AllocError>
-    ensures { IfOk result (λ damage. damage.items ≡ damage_by entries.now regions
+    ensures { IfOk result (λ damage. damage.items ≡ damage_by streams.now counted.now
         (map (map_ok exception_of) exceptions.now) (map thread_value threads.now)) }
 {
     let before = before_last(exceptions);
-    entries
+    streams
         .iter()
         .filter_map(|each| stream_damage(each))
-        .chain([regions].iter().filter_map(|each| regions_damage(*each)))
+        .chain(counted.iter().filter_map(|each| *each))
         .chain(before.iter().filter_map(|each| exception_error(each)))
         .chain(exceptions.iter().filter_map(|each| exception_damage(each)))
         .chain(threads.iter().filter_map(|each| context_damage(each)))
@@ -98,15 +127,50 @@ fn stream_damage(entry: &StreamEntry) -> Option<Damage>
     })
 }
 
-// Returns regions that are outside the file, if there are any.
-fn regions_damage(count: u64) -> Option<Damage>
-    ensures { result ≡ regions_damage count }
+// Returns what is told by its number: regions outside the file, modules without addresses, and texts by
+// their streams, ascending by type.
+pub(crate) fn counted_damage(
+    alloc: Global,
+    dump: &Minidump<'_>,
+    contents: &Contents<'_>,
+    comments: &Comments,
+) -> Result<[Option<Damage>; 8], Error>
+    ensures counted { IfOk result (λ counted. counted
+        ≡ counted_damage (dump_of dump.now) (contents_of contents.now) (comments_of comments.now)) }
+    ensures memory { IsOkUnless result Error.OutOfMemory }
 {
-    if count == 0 {
-        None
-    } else {
-        Some(Damage::Regions { count })
-    }
+    let regions = contents.space.regions_outside;
+    let modules = contents.space.modules.entries_without_addresses();
+    let system = system_lacking(&contents.system.system);
+    let comment = comment_lacking(dump, comments);
+    let handles = handles_lacking(&contents.process.handles);
+    let threads = threads_lacking(&contents.threads.names);
+    let assertion = assertion_lacking(alloc, &contents.messages.assertion)?;
+    let boot_args = boot_args_lacking(&contents.messages.mac_boot_args);
+    Ok([
+        if_any(regions, Damage::Regions { count: regions }),
+        if_any(modules, Damage::Modules { count: modules }),
+        texts_damage(MinidumpSystemInfo::number_of_type(), system),
+        texts_damage(11, comment),
+        texts_damage(MinidumpHandleDataStream::number_of_type(), handles),
+        texts_damage(MinidumpThreadNames::number_of_type(), threads),
+        texts_damage(MinidumpAssertion::number_of_type(), assertion),
+        texts_damage(MinidumpMacBootargs::number_of_type(), boot_args),
+    ])
+}
+
+// Returns damage, or `None` if there is none of it.
+fn if_any(count: u64, damage: Damage) -> Option<Damage>
+    ensures { result ≡ if_any count damage }
+{
+    if count == 0 { None } else { Some(damage) }
+}
+
+// Returns the texts of a stream that can't be read, if there are any.
+fn texts_damage(number: u32, count: u64) -> Option<Damage>
+    ensures { result ≡ texts_damage number count }
+{
+    if_any(count, Damage::Texts { number, count })
 }
 
 // Returns an exception that can't be read.

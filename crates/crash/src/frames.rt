@@ -1,7 +1,8 @@
 ghost use Rattle.std.specs.Prelude.{◌≡◌, IfOk, IsOkUnless, map};
 ghost use Rattle.std.specs.Option.{option_copied, option_map};
 ghost use Rattle.minidump.specs.Below.MemoryLists.Unified.{unified_list, unified_region};
-ghost use Rattle.minidump.specs.Promise.{exception_stream, module_list_stream};
+ghost use Rattle.minidump.specs.Below.Modules.ModuleList.{module_list_of};
+ghost use Rattle.minidump.specs.Promise.{exception_stream};
 ghost use Rattle.minidump.specs.Thread.{thread_of};
 ghost use Rattle.stack_walk.specs.Frames.{stack_of};
 ghost use Rattle.stack_walk.specs.Threads.{process_of};
@@ -177,7 +178,7 @@ pub fn frame_in(stack: &Stack<'_, '_>, frame: &StackFrame) -> CrashFrame
 // Returns the index of the kept module that contains an address, if there is one, and the offset in
 // that.
 fn place_of(modules: &MinidumpModuleList, address: Option<u64>) -> Option<(usize, u64)>
-    ensures { result ≡ place_of (module_list_stream.value modules.now) address }
+    ensures { result ≡ place_of (module_list_of modules.now) address }
 {
     module_place(modules, address?)
 }

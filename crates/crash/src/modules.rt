@@ -154,7 +154,7 @@ struct EachModule;
 
 impl MakeItem<MinidumpModule> for EachModule {
     ghost use Rattle.minidump.specs.Below.Modules.Module.{ModuleValue, module_of};
-    ghost use Rattle.crash.specs.Modules.{LoadedValue, loaded_of, module_in};
+    ghost use Rattle.crash.specs.Modules.{LoadedValue, module_in};
 
     type Made = CrashModule;
 
@@ -189,7 +189,6 @@ struct EachUnloadedModule;
 impl MakeItem<MinidumpUnloadedModule> for EachUnloadedModule {
     ghost use Rattle.minidump.specs.Below.Modules.UnloadedModule.{UnloadedValue, unloaded_of};
     ghost use Rattle.crash.specs.Modules.{UnloadedModuleValue, unloaded_module_in};
-    ghost use Rattle.crash.specs.Modules.{unloaded_module_of};
 
     type Made = UnloadedModule;
 

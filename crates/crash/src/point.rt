@@ -2,7 +2,7 @@
 ghost use Rattle.std.specs.Prelude.{◌≡◌, IfOk, map, take};
 ghost use Rattle.std.specs.Option.{option_map};
 ghost use Rattle.minidump.specs.Below.MemoryLists.Unified.{unified_list, unified_region};
-ghost use Rattle.minidump.specs.Promise.{module_list_stream};
+ghost use Rattle.minidump.specs.Below.Modules.ModuleList.{module_list_of};
 ghost use Rattle.stack_walk.specs.Frames.{instruction_pointer_in, stack_of, stack_pointer_in};
 ghost use Rattle.crash.specs.Contents.{contents_of};
 ghost use Rattle.crash.specs.Point.{code_at, code_of, flags_of, point_by, point_in, point_of};
@@ -214,7 +214,7 @@ fn word_in(stack: &Stack<'_, '_>, address: u64) -> Option<StackWord>
 
 // Returns a word with its module.
 fn word_by(modules: &MinidumpModuleList, address: u64, value: u64) -> StackWord
-    ensures { result ≡ word_by (module_list_stream.value modules.now) address value }
+    ensures { result ≡ word_by (module_list_of modules.now) address value }
 {
     StackWord {
         address,

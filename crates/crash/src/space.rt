@@ -1,4 +1,4 @@
-ghost use Rattle.std.specs.Prelude.{◌≡◌, [], IfOk, IsOkUnless, length, map, unwrap_or};
+ghost use Rattle.std.specs.Prelude.{◌≡◌, IfOk, IsOkUnless, length, map};
 ghost use Rattle.std.specs.Option.{option_map};
 ghost use Rattle.std.specs.Result.{result_err, result_ok};
 ghost use Rattle.minidump.specs.Below.Contexts.Context.{map_ok};
@@ -10,7 +10,7 @@ ghost use Rattle.minidump.specs.Promise.{linux_maps_stream, memory64_list_stream
 ghost use Rattle.minidump.specs.Promise.{memory_info_list_stream, memory_list_stream};
 ghost use Rattle.minidump.specs.Promise.{module_list_stream};
 ghost use Rattle.crash.specs.Contents.{space_streams_in, space_streams_of};
-ghost use Rattle.crash.specs.Space.{first_infos, first_memory, regions_outside_of};
+ghost use Rattle.crash.specs.Space.{first_infos, first_memory, listed_or_none, regions_outside_of};
 
 use minidump::{
     Error, Minidump, MinidumpLinuxMaps, MinidumpMemory64List, MinidumpMemoryInfoList,
@@ -24,7 +24,7 @@ use std::alloc::{AllocError, Global};
 /// the memory information, else the maps of Linux.
 #[derive(Drop)]
 pub struct SpaceStreams<'a> {
-    /// The modules.
+    /// The modules, with how many entries of their list have no addresses.
     pub modules: MinidumpModuleList,
     /// Why their list can't be read, or `None` if it can be.
     pub modules_error: Option<Error>,
@@ -145,7 +145,7 @@ pub(crate) fn error_of<'a, S: MinidumpStream<'a>>(found: &Result<S, Error>) -> O
 // Returns the modules, or none.
 fn modules_or_none(alloc: Global, found: Result<MinidumpModuleList, Error>) -> MinidumpModuleList
     ensures { module_list_stream.value result
-        ≡ unwrap_or (result_ok (map_ok module_list_stream.value found)) [] }
+        ≡ listed_or_none (map_ok module_list_stream.value found) }
 {
     match found {
         Ok(modules) => modules,

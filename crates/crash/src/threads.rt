@@ -247,11 +247,8 @@ struct EachThread<'l, 'a, 'n> {
 }
 
 impl<'a> MakeItem<MinidumpThread<'a>> for EachThread<'_, 'a, '_> {
-    ghost use Rattle.std.specs.Option.{option_copied, option_map};
-    ghost use Rattle.minidump.specs.Promise.{exception_stream};
-    ghost use Rattle.minidump.specs.Thread.{Thread, thread_of};
-    ghost use Rattle.crash.specs.Contents.{contents_of};
-    ghost use Rattle.crash.specs.Threads.{ThreadValue, thread_in, thread_value};
+    ghost use Rattle.minidump.specs.Thread.{Thread};
+    ghost use Rattle.crash.specs.Threads.{ThreadValue, thread_in};
 
     type Made = CrashThread;
 

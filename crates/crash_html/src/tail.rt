@@ -219,6 +219,8 @@ function damageWords(damage) {
   switch (part(damage, "what")) {
     case "stream": return joined([streamName(part(damage, "number")), error], ": ");
     case "regions": return "regions of the plain list of memory, outside the file: " + counted(part(damage, "count"));
+    case "modules": return "modules without addresses: " + counted(part(damage, "count"));
+    case "texts": return "texts of " + streamName(part(damage, "number")) + ": " + counted(part(damage, "count"));
     case "exception": return joined(["an exception before the last", error], ": ");
     case "exception_context": return joined(["the context of the exception on thread " + thread + ", outside the file", error], ": ");
     case "thread_context": return joined(["the context of thread " + thread + ", outside the file", error], ": ");

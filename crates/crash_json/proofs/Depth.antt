@@ -19,7 +19,7 @@ use Rattle.minidump.specs.Below.Records.Record.{MacRecord}
 use Rattle.crash.specs.declared.addresses.AddressFacts.{AddressFacts}
 use Rattle.crash.specs.declared.addresses.AddressMemory.{AddressMemory}
 use Rattle.crash.specs.declared.damage.Damage.{Damage}
-use Rattle.crash.specs.declared.damage.Damage.TheVariants.{Exception, ExceptionContext, Regions, Stack, Stream, ThreadContext}
+use Rattle.crash.specs.declared.damage.Damage.TheVariants.{Exception, ExceptionContext, Modules, Regions, Stack, Stream, Texts, ThreadContext}
 use Rattle.crash.specs.declared.directory.StreamEntry.{StreamEntry}
 use Rattle.crash.specs.declared.contexts.ShortContext.{ShortContext}
 use Rattle.crash.specs.declared.point.StackWord.{StackWord}
@@ -221,6 +221,8 @@ damage_depth : (d : Damage) → depth (damage_json d) ≤ 1
 unfolding damage_object
 damage_depth (Stream number error) = omega arith
 damage_depth (Regions regions) = omega arith
+damage_depth (Modules entries) = omega arith
+damage_depth (Texts number entries) = omega arith
 damage_depth (Exception error) = omega arith
 damage_depth (ExceptionContext id) = omega arith
 damage_depth (ThreadContext id) = omega arith

@@ -8,8 +8,8 @@ use Rattle.minidump.specs.Below.Format.Error.{name_of_error}
 use Rattle.minidump.specs.Below.Format.StreamType.{stream_type_of, type_name}
 use Rattle.minidump.specs.Below.MemoryLists.Unified.{UnifiedRegion, unified_regions}
 use Rattle.crash.specs.declared.damage.Damage.{Damage}
-use Rattle.crash.specs.declared.damage.Damage.TheVariants.{Exception, ExceptionContext, Regions, Stack, Stream}
-use Rattle.crash.specs.declared.damage.Damage.TheVariants.{ThreadContext}
+use Rattle.crash.specs.declared.damage.Damage.TheVariants.{Exception, ExceptionContext, Modules, Regions}
+use Rattle.crash.specs.declared.damage.Damage.TheVariants.{Stack, Stream, Texts, ThreadContext}
 use Rattle.crash.specs.declared.directory.StreamEntry.{StreamEntry}
 use Rattle.crash.specs.Crash.{CrashValue, status_of}
 use Rattle.crash_json.specs.Tree.{array_of, count, hex_string, object_of, or_null}
@@ -44,13 +44,13 @@ region_json r = object_of (
 
 -- ---- damage
 
--- damage by the word for what it is of, the type of a stream, the number of regions, the id of a thread,
--- and the name of an error
+-- damage by the word for what it is of, the type of a stream, the number of entries of a list, the id of
+-- a thread, and the name of an error
 unfoldable pub damage_object : List ℕ → Option ℕ → Option ℕ → Option ℕ → Option (List ℕ) → Json
-damage_object what number regions thread error = object_of (
+damage_object what number entries thread error = object_of (
     (codes "what", string what)
     ∷ (codes "number", or_null hex_string number)
-    ∷ (codes "count", or_null count regions)
+    ∷ (codes "count", or_null count entries)
     ∷ (codes "thread_id", or_null count thread)
     ∷ (codes "error", or_null string error)
     ∷ [])
@@ -59,7 +59,10 @@ damage_object what number regions thread error = object_of (
 abbrev pub damage_json : Damage → Json
 damage_json (Stream number error) =
     damage_object (codes "stream") (Some number) None None (Some (name_of_error error))
-damage_json (Regions regions) = damage_object (codes "regions") None (Some regions) None None
+damage_json (Regions entries) = damage_object (codes "regions") None (Some entries) None None
+damage_json (Modules entries) = damage_object (codes "modules") None (Some entries) None None
+damage_json (Texts number entries) =
+    damage_object (codes "texts") (Some number) (Some entries) None None
 damage_json (Exception error) =
     damage_object (codes "exception") None None None (Some (name_of_error error))
 damage_json (ExceptionContext id) =

@@ -12,10 +12,10 @@ ghost use Rattle.crash_json.specs.Cause.{expression_in, memory_json, problem_nam
 ghost use Rattle.crash_json.specs.Cause.{sender_json, state_name, unread_json};
 
 use crate::frames::{index_of, offset_of};
-use crate::tree::{Members, Put, Scalar, ToJson, as_text, put_array, put_or_null};
+use crate::tree::{Members, Put, Scalar, ToJson, put_array, put_or_null};
 use crash::{
     Access, AddressFacts, AddressMemory, ContextProblem, Crash, CrashCause, CrashException,
-    RegionState, Sender,
+    RegionState, Sender, as_text,
 };
 use json::Writer;
 use minidump::own_streams::text_before_nul;

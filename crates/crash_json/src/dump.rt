@@ -18,8 +18,8 @@ use crate::linux::put_environment;
 use crate::report::Report;
 use crate::signature::signature_in;
 use crate::threads::registers_of;
-use crate::tree::{Members, Put, Scalar, ToJson, as_text, put_array, put_found, put_or_null};
-use crash::{Crash, Damage, StreamEntry, regions_of};
+use crate::tree::{Members, Put, Scalar, ToJson, put_array, put_found, put_or_null};
+use crash::{Crash, Damage, StreamEntry, as_text, regions_of};
 use json::Writer;
 use minidump::format::MINIDUMP_STREAM_TYPE;
 use minidump::{Error, UnifiedMemory, UnifiedMemoryList};
@@ -246,6 +246,12 @@ impl ToJson for Damage {
             Damage::Regions { count } => {
                 put_damage(out, alloc, "regions", None, Some(count), None, None)
             }
+            Damage::Modules { count } => {
+                put_damage(out, alloc, "modules", None, Some(count), None, None)
+            }
+            Damage::Texts { number, count } => {
+                put_damage(out, alloc, "texts", Some(number), Some(count), None, None)
+            }
             Damage::Exception { error } => {
                 put_damage(out, alloc, "exception", None, None, None, Some(error))
             }
@@ -276,17 +282,17 @@ fn put_damage(
     alloc: Global,
     what: &str,
     number: Option<u32>,
-    regions: Option<u64>,
+    entries: Option<u64>,
     thread: Option<u32>,
     error: Option<Error>,
 ) -> Put
     ensures { Puts result out.old out.new
-        (damage_object what.now number regions thread (option_map name_of_error error)) }
+        (damage_object what.now number entries thread (option_map name_of_error error)) }
 {
     Members(&[
         ("what", Scalar::Text(Some(what))),
         ("number", Scalar::Hex(widened(number))),
-        ("count", Scalar::Number(regions)),
+        ("count", Scalar::Number(entries)),
         ("thread_id", Scalar::Number(widened(thread))),
         ("error", Scalar::Text(error_name(error))),
     ])

@@ -17,9 +17,9 @@ use crate::modules::{main_module, put_modules};
 use crate::soft_errors::put_soft_errors;
 use crate::threads::{EachThread, put_crashing};
 use crate::tree::{
-    Members, Put, Scalar, ToJson, as_text, put_array, put_found, put_numbered_array, put_or_null,
+    Members, Put, Scalar, ToJson, put_array, put_found, put_numbered_array, put_or_null,
 };
-use crash::{Crash, CrashThread};
+use crash::{Crash, CrashThread, as_text};
 use crash_symbols::Symbolized;
 use json::Writer;
 use minidump::{Error, MinidumpMacBootargs, MinidumpSoftErrors};

@@ -4,12 +4,13 @@
 //! value has its number in it. [`Members`] are the members of an object, whose values are of one type:
 //! it puts the object, or adds them to those that were put.
 ghost use Rattle.std.specs.Prelude.{◌≡◌, ℕ, IfOk, map, string_bytes};
-ghost use Rattle.std.specs.Option.{option_copied, option_map};
+ghost use Rattle.std.specs.Option.{option_copied};
 ghost use Rattle.std.specs.Result.{result_ok};
 ghost use Rattle.json.specs.Json.{Json, string};
 ghost use Rattle.crash_json.specs.Tree.{Adds, Puts, array_of, hex_text, member_of};
 ghost use Rattle.crash_json.specs.Tree.{numbered_array_of, object_of, or_null};
 
+use crash::as_text;
 use json::Writer;
 use minidump_bytes::{Piece, format_pieces};
 use minidump_format::Error;
@@ -37,16 +38,6 @@ pub(crate) enum Scalar<'a> {
     Hex(Option<u64>),
     /// `true` or `false`.
     Flag(bool),
-}
-
-/// Borrows a text that may be absent.
-pub(crate) fn as_text(text: &Option<String>) -> Option<&str>
-    ensures { option_copied result ≡ option_map string_bytes text.now }
-{
-    match text {
-        Some(text) => Some(text.as_str()),
-        None => None,
-    }
 }
 
 /// A type that has a JSON value.

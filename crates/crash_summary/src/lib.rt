@@ -20,7 +20,8 @@ ghost use Rattle.minidump.specs.Below.Reasons.ReasonText.{reason_text};
 ghost use Rattle.minidump.specs.Crash.{last_with};
 ghost use Rattle.minidump.specs.Dump.{HasEntries, dump_system};
 ghost use Rattle.minidump.specs.DumpValue.{dump_of};
-ghost use Rattle.minidump.specs.Promise.{exception_stream, module_list_stream, system_info_stream};
+ghost use Rattle.minidump.specs.Below.Modules.ModuleList.{module_list_of};
+ghost use Rattle.minidump.specs.Promise.{exception_stream, system_info_stream};
 ghost use Rattle.minidump.specs.Promise.{thread_list_stream};
 ghost use Rattle.minidump.specs.Thread.{thread_of};
 ghost use Rattle.minidump.specs.ThreadText.{stack_of};
@@ -141,7 +142,7 @@ fn threads_of<'a>(alloc: Global, dump: &Minidump<'a>) -> Result<MinidumpThreadLi
 
 // Returns the modules, an empty list if they are missing or malformed.
 fn modules_of(alloc: Global, dump: &Minidump<'_>) -> Result<MinidumpModuleList, Error>
-    ensures value { IfOk result (λ modules. module_list_stream.value modules
+    ensures value { IfOk result (λ modules. module_list_of modules
         ≡ modules_in (dump_of dump.now)) }
     ensures memory { IsOkUnless result Error.OutOfMemory }
 {
@@ -250,7 +251,7 @@ fn module_at(
     address: Option<u64>,
 ) -> Result<Option<ModuleHit>, Error>
     ensures value { IfOk result (λ hit. option_map loaded_of hit
-        ≡ module_at (module_list_stream.value modules.now) address) }
+        ≡ module_at (module_list_of modules.now) address) }
     ensures memory { IsOkUnless result Error.OutOfMemory }
 {
     let Some(address) = address else {

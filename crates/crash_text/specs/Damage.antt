@@ -8,8 +8,8 @@ use Rattle.minidump.specs.Below.Bytes.Piece.{hex}
 use Rattle.minidump.specs.Below.Format.Error.{name_of_error}
 use Rattle.minidump.specs.Below.Format.StreamType.{stream_type_of, type_name}
 use Rattle.crash.specs.declared.damage.Damage.{Damage}
-use Rattle.crash.specs.declared.damage.Damage.TheVariants.{Exception, ExceptionContext, Regions}
-use Rattle.crash.specs.declared.damage.Damage.TheVariants.{Stack, Stream, ThreadContext}
+use Rattle.crash.specs.declared.damage.Damage.TheVariants.{Exception, ExceptionContext, Modules, Regions}
+use Rattle.crash.specs.declared.damage.Damage.TheVariants.{Stack, Stream, Texts, ThreadContext}
 use Rattle.crash.specs.declared.unreadable_modules.ModulePart.{ModulePart}
 use Rattle.crash.specs.declared.unreadable_modules.ModulePart.TheVariants.{CodeView, Name}
 use Rattle.crash.specs.declared.unreadable_modules.UnreadableModule.{UnreadableModule}
@@ -29,15 +29,19 @@ stream_text number = name_of_type number (stream_type_of number)
 unfoldable pub stream_row : List ℕ → List ℕ → List ℕ
 stream_row stream error = concat (codes "can't be read: " ∷ stream ∷ codes ": " ∷ error ∷ [])
 
--- the line of how many regions of memory have bytes that are not in the file
-unfoldable pub regions_row : ℕ → List ℕ
-regions_row count =
-    concat (codes "outside the file: regions of the plain list of memory: " ∷ decimal count ∷ [])
+-- the line of a number, after words and what is counted
+unfoldable pub count_row : List ℕ → List ℕ → ℕ → List ℕ
+count_row words counted count = concat (words ∷ counted ∷ codes ": " ∷ decimal count ∷ [])
 
 -- the line of something that can't be read, or of bytes that are not in the file
 abbrev pub damage_row : Damage → List ℕ
 damage_row (Stream number error) = stream_row (stream_text number) (name_of_error error)
-damage_row (Regions count) = regions_row count
+damage_row (Regions count) =
+    count_row (codes "outside the file: ") (codes "regions of the plain list of memory") count
+damage_row (Modules count) =
+    count_row (codes "can't be read: ") (codes "modules without addresses") count
+damage_row (Texts number count) =
+    count_row (codes "can't be read: texts of ") (stream_text number) count
 damage_row (Exception error) =
     stream_row (codes "an exception before the last") (name_of_error error)
 damage_row (ExceptionContext thread) =

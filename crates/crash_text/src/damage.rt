@@ -1,6 +1,6 @@
 ghost use Rattle.std.specs.Prelude.{◌≡◌, [], ◌∷◌, IfOk, string_bytes};
 ghost use Rattle.crash.specs.Crash.{crash_of};
-ghost use Rattle.crash_text.specs.Damage.{damage_lines, entries_lines, part_words, regions_row};
+ghost use Rattle.crash_text.specs.Damage.{count_row, damage_lines, entries_lines, part_words};
 ghost use Rattle.crash_text.specs.Damage.{stream_row, stream_text};
 ghost use Rattle.crash_text.specs.Lines.{Adds};
 
@@ -38,7 +38,19 @@ impl Line for Damage {
                 let stream = stream_text(*out.allocator(), number)?;
                 push_stream(out, stream.as_str(), error.name())
             }
-            Damage::Regions { count } => push_regions(out, count),
+            Damage::Regions { count } => push_number(
+                out,
+                "outside the file: ",
+                "regions of the plain list of memory",
+                count,
+            ),
+            Damage::Modules { count } => {
+                push_number(out, "can't be read: ", "modules without addresses", count)
+            }
+            Damage::Texts { number, count } => {
+                let stream = stream_text(*out.allocator(), number)?;
+                push_number(out, "can't be read: texts of ", stream.as_str(), count)
+            }
             Damage::Exception { error } => push_stream(
                 out,
                 "an exception before the last",
@@ -67,13 +79,13 @@ fn push_stream<'t>(out: &mut String, stream: &'t str, error: &'t str) -> Added
     push_line(out, &[Words("can't be read: "), Words(stream), Words(": "), Words(error)])
 }
 
-// Appends how many regions of memory have bytes that are not in the file.
+// Appends a number, after words and what is counted.
 #[rattlefmt::skip]
-#[tactic(auto, unfolding(crate::specs::Damage::regions_row))]
-fn push_regions(out: &mut String, count: u64) -> Added
-    ensures { Adds out.old out.new (regions_row count ∷ []) result }
+#[tactic(auto, unfolding(crate::specs::Damage::count_row))]
+fn push_number<'t>(out: &mut String, words: &'t str, counted: &'t str, count: u64) -> Added
+    ensures { Adds out.old out.new (count_row words.now counted.now count ∷ []) result }
 {
-    push_line(out, &[Words("outside the file: regions of the plain list of memory: "), Decimal(count)])
+    push_line(out, &[Words(words), Words(counted), Words(": "), Decimal(count)])
 }
 
 // Returns the words for a part of a module's entry.

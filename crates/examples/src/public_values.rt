@@ -127,11 +127,14 @@ pub fn linux_map(region: &MinidumpLinuxMapInfo<'_>) -> u8
     region.map.perms.bits()
 }
 
-/// Returns the modules of a module list.
-pub fn module_list(list: &MinidumpModuleList) -> slice::Iter<'_, MinidumpModule>
-    ensures { map module_of (iter_rest result) ≡ module_list_stream.value list.now }
+/// Returns the modules of a module list, and how many entries of its stream have no addresses.
+pub fn module_list(list: &MinidumpModuleList) -> (slice::Iter<'_, MinidumpModule>, u64)
+    ensures { module_list_stream.value list.now ≡ record {
+      modules = map module_of (iter_rest result.0);
+      without_addresses = result.1;
+    } }
 {
-    list.iter()
+    (list.iter(), list.entries_without_addresses())
 }
 
 /// Returns the byte order and the operating system of a module's dump.
@@ -192,9 +195,16 @@ pub fn exception<'a>(exception: &MinidumpException<'a>) -> (Option<&'a [u8]>, En
 /// Returns the name of a thread.
 pub fn thread_name(names: &MinidumpThreadNames, thread_id: u32) -> Option<&str>
     ensures { option_copied result ≡ name_of_thread
-        (thread_names_stream.value names.now) thread_id }
+        (thread_names_stream.value names.now).names thread_id }
 {
     names.get_name(thread_id)
+}
+
+/// Returns how many entries of a list of names name a text where none is.
+pub fn unreadable_names(names: &MinidumpThreadNames) -> u64
+    ensures { result ≡ (thread_names_stream.value names.now).unreadable }
+{
+    names.unreadable_names()
 }
 
 /// Returns the text of the soft errors.

@@ -69,7 +69,8 @@ IsMemoryLine dump address text =
 
 -- the modules of a dump, where its list of modules can be read; unloaded modules play no part
 abbrev pub modules_of_dump : Dump → Option (List ModuleValue)
-modules_of_dump dump = result_ok (stream_of module_list_stream dump)
+modules_of_dump dump =
+    option_map (λ listed. listed.modules) (result_ok (stream_of module_list_stream dump))
 
 -- the line of the module that contains an address
 abbrev pub IsModuleLine : Dump → ℕ → List ℕ → Type 0

@@ -78,9 +78,9 @@ section_text dump part.MiscInfoStream = section misc_info_stream misc_info_text 
 section_text dump part.ExceptionStream = section exception_stream (exception_text (dump_system dump)) dump
 section_text dump part.ThreadListStream =
     section thread_list_stream (thread_list_text (memories_of_dump dump) (dump_system dump) false) dump
-section_text dump part.ThreadNamesStream = section thread_names_stream thread_names_text dump
+section_text dump part.ThreadNamesStream = section thread_names_stream (λ all. thread_names_text all.names) dump
 section_text dump part.ThreadInfoListStream = section thread_info_list_stream thread_info_list_text dump
-section_text dump part.ModuleListStream = section module_list_stream module_list_text dump
+section_text dump part.ModuleListStream = section module_list_stream (λ listed. module_list_text listed.modules) dump
 section_text dump part.UnloadedModuleListStream = section unloaded_module_list_stream unloaded_module_list_text dump
 section_text dump part.Memory64ListStream = section memory64_list_stream (memory64_list_text true) dump
 section_text dump part.MemoryListStream = section memory_list_stream (λ plain. memory_list_text true plain.regions) dump

@@ -301,7 +301,7 @@ pub fn values_are_those_of_the_entries<T>()
     ensures memory_info { (list : MinidumpMemoryInfoList) (f : MemoryInfo → T)
         → map f (memory_info_list_stream.value list) ≡ map (λ i. f (info_of i)) (infos_of list) }
     ensures modules { (list : MinidumpModuleList) (f : ModuleValue → T)
-        → map f (module_list_stream.value list) ≡ map (λ m. f (module_of m)) (modules_of list) }
+        → map f (module_list_stream.value list).modules ≡ map (λ m. f (module_of m)) (modules_of list) }
     ensures threads { (list : MinidumpThreadList) (f : Thread → T)
         → map f (thread_list_stream.value list) ≡ map (λ t. f (thread_of t)) list.threads.items }
     ensures thread_infos { (list : MinidumpThreadInfoList) (f : MINIDUMP_THREAD_INFO → T)

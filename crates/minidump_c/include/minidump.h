@@ -247,8 +247,9 @@ struct minidump_crash {
     struct minidump_facts facts;         /* of the address that the crash is about */
     uint64_t uptime;     /* for how many seconds the process had run when the dump was written */
     size_t thread_index; /* of the thread that crashed, in the table of threads */
-    size_t damage_count; /* how many streams, exceptions, contexts and stacks are there and can't be read, and
-                          * one more if regions of memory are outside the file; minidump_crash_json names them */
+    size_t damage_count; /* how many streams, exceptions, contexts and stacks are there and can't be read, and one
+                          * more for each of these: regions of memory outside the file, modules without addresses, and
+                          * each stream with texts that can't be read; minidump_crash_json names them */
     size_t register_size; /* how many bytes a register has */
     size_t frame_count;   /* the sizes of the whole tables, and of all texts */
     size_t register_count;

@@ -54,7 +54,6 @@ fn line_of(error: NamesError, none: u64) -> u64
 }
 
 impl From<NamesError> for CallError {
-    ghost use Rattle.std.specs.Prelude.{◌≡◌};
     ghost use Rattle.minidump_c.specs.declared.names.CallError.TheVariants.{OfNames};
 
     ghost from_gives = { λ error call. call ≡ OfNames error };
@@ -65,7 +64,6 @@ impl From<NamesError> for CallError {
 }
 
 impl From<AllocError> for CallError {
-    ghost use Rattle.std.specs.Prelude.{◌≡◌};
     ghost use Rattle.minidump_names.specs.declared.error.NamesError.TheVariants.{OutOfMemory};
     ghost use Rattle.minidump_c.specs.declared.names.CallError.TheVariants.{OfNames};
 
@@ -77,7 +75,6 @@ impl From<AllocError> for CallError {
 }
 
 impl From<Error> for CallError {
-    ghost use Rattle.std.specs.Prelude.{◌≡◌};
     ghost use Rattle.minidump_c.specs.declared.names.CallError.TheVariants.{OfDump};
 
     ghost from_gives = { λ error call. call ≡ OfDump error };

@@ -31,7 +31,7 @@ pub struct CrashRow {
     pub uptime: u64,
     /// The index of the thread that crashed.
     pub thread_index: usize,
-    /// The number of streams, exceptions, contexts and stacks that are there and can't be read.
+    /// The number of items of `Crash::damage`: of what is there and can't be read.
     pub damage_count: usize,
     /// How many bytes a register has.
     pub register_size: usize,

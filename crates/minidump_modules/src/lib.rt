@@ -13,7 +13,7 @@
 //! malformed, `CodeViewReadFailure` for a malformed name or CodeView record of a loaded module,
 //! `ModuleReadFailure` for an unloaded module without addresses, `DataError` for a malformed name
 //! of one, and `OutOfMemory` where an allocation fails. A loaded module without addresses is
-//! skipped, its name and its record unread. Printing returns `IoError` where the writer has failed
+//! skipped and counted, its name and its record unread. Printing returns `IoError` where the writer has failed
 //! by then, else `OutOfMemory` where an allocation fails.
 //!
 //! # What is proved

@@ -1,7 +1,8 @@
 -- The names of threads in a sorted map, and the last of each.
-use Rattle.std.proofs.Common.{◌≡◌, ◌≢◌, ℕ, ◌<◌, ◌≤◌, cond, Bool, true, false, List, [], ◌∷◌, ◌++◌, map, Option, Some, None, refl, ap, sym, ◌∙◌, arith}
+use Rattle.std.proofs.Common.{◌≡◌, ◌≢◌, ℕ, ◌+◌, ◌<◌, ◌≤◌, cond, Bool, true, false, List, [], ◌∷◌, ◌++◌, map, Option, Some, None, refl, ap, sym, ◌∙◌, arith}
+use Rattle.std.proofs.Common.{get_or, length, take}
 use Rattle.std.proofs.Common.{append_assoc, append-nil}
-use Rattle.std.specs.Prelude.{◌==◌, All}
+use Rattle.std.specs.Prelude.{◌==◌, All, count_by, if◌then◌else◌, not}
 use Rattle.std.specs.BTreeMap.{BTreeMap, IsOrdered, Updates, get, is_at}
 use Rattle.std.specs.List.{AllZip}
 use Rattle.std.specs.Map.{lookup}
@@ -10,6 +11,7 @@ use Rattle.std.specs.Ordering.{nat_cmp}
 use Rattle.std.proofs.lemmas.Bool.{eq-eqb, ne_eqb}
 use Rattle.std.proofs.lemmas.List.{reverse-append}
 use Rattle.std.proofs.lemmas.List.Elements.{All-head, All-tail}
+use Rattle.std.proofs.lemmas.List.Sums.{sum_by_more}
 use Rattle.std.proofs.lemmas.Map.Made.{lookup-map_values}
 use Rattle.minidump_records.specs.declared.thread_info.MinidumpThreadInfo.{MinidumpThreadInfo}
 use Rattle.minidump_records.specs.ThreadInfo.{last_info}
@@ -114,3 +116,21 @@ module _ {X : Type 0} (text : X → List ℕ) (limit : ℕ) where
 pub name_found : {X : Type 0} (text : X → List ℕ) (m : BTreeMap ℕ X) (id : ℕ)
     → name_of_thread (map (λ e. (e.0, text e.1)) m.entries) id ≡ option_map text (get nat_cmp m id)
 name_found text m id = lookup-map_values text (λ k. k == id) m.entries ∙ ap (option_map text) (sym (lookup_number id m.entries))
+
+-- ---- names that are no text
+
+flipped : (b : Bool) → ◌≡◌ {A = ℕ} (cond (not b) 1 0) (if b then 0 else 1)
+flipped true = refl
+flipped false = refl
+
+-- one entry more counts, but where its RVA is 0
+pub counted_more : {R : Type 0} (p : R → Bool) (xs : List R) (i : ℕ) (x : R) (is_zero : Bool) → i < length xs → get_or xs i x ≡ x → p x ≡ not is_zero
+    → count_by p (take (i + 1) xs) ≡ count_by p (take i xs) + (if is_zero then 0 else 1)
+counted_more p xs i x is_zero inside item is =
+    sum_by_more (λ y. cond (p y) 1 0) xs i x inside
+    ∙ ap (λ b. count_by p (take i xs) + cond b 1 0) (ap p item ∙ is)
+    ∙ ap (λ n. count_by p (take i xs) + n) (flipped is_zero)
+
+pub at_most_one : (b : Bool) → (if b then 0 else 1) ≤ 1
+at_most_one true = omega arith
+at_most_one false = omega arith

@@ -1,4 +1,5 @@
 -- What the contracts of this crate cite: a module for each stream.
+pub mod NamedText
 pub mod ThreadNames
 pub mod ThreadInfo
 pub mod Handles

@@ -23,14 +23,16 @@
 //! Reading returns `StreamReadFailure` or `StreamSizeMismatch` if the stream is malformed,
 //! `VersionMismatch` for Crashpad's information of version 0 and for a record of macOS that has
 //! another version than the one before it, `DataError` for soft errors that are not UTF-8, and
-//! `OutOfMemory` if an allocation fails. A name of a thread that is no text is skipped, one of a
-//! handle is `None`. Reading a Linux text has no error. Printing returns `IoError` if the writer
-//! has failed by then, and otherwise `OutOfMemory` if an allocation fails.
+//! `OutOfMemory` if an allocation fails. A name of a thread that is no text is skipped and, if its
+//! RVA isn't 0, counted; one of a handle is `None`. Reading a Linux text has no error. Printing
+//! returns `IoError` if the writer has failed by then, and otherwise `OutOfMemory` if an allocation
+//! fails.
 //!
 //! # What is proved
 //!
 //! - The name of a thread is the last text that an entry with its id names, and `None` if there is
-//!   no such text: `MinidumpThreadNames::read`, by `thread_names_in`; `get_name`;
+//!   no such text; the entries that name a text where none is, at an RVA other than 0, are counted:
+//!   `MinidumpThreadNames::read`, by `thread_names_in`; `get_name`; `unreadable_names`;
 //!   `laws::last_name_of_a_thread_is_kept`. A read takes at least one step for the count, for each
 //!   entry and for its name.
 //! - All thread information stays in the order of the file, and the last entry of an id is found:

@@ -1,15 +1,14 @@
 ghost use Rattle.std.specs.Prelude.{◌≡◌, ◌^◌, ◌+◌, ◌*◌, ◌++◌, ◌≤◌, [], ◌↔◌, length, Any, IfOk, IsOkUnless, IsTrue};
-ghost use Rattle.std.specs.Prelude.{OnErr, OnOk, map, string_bytes};
+ghost use Rattle.std.specs.Prelude.{◌==◌, OnErr, OnOk, if◌then◌else◌, map, string_bytes};
 ghost use Rattle.std.specs.BTreeMap.{IsOrdered, Updates};
-ghost use Rattle.std.specs.List.{filter_map};
 ghost use Rattle.std.specs.Option.{option_copied, option_map};
 ghost use Rattle.std.specs.Ordering.{nat_cmp};
 ghost use Rattle.minidump_bytes.specs.Source.{bytes_of};
 ghost use Rattle.minidump_bytes.specs.Steps.{after};
 ghost use Rattle.minidump_bytes.specs.Text16.{TakesMemory16, text16};
 ghost use Rattle.minidump_format.specs.Print.{Prints};
-ghost use Rattle.minidump_records.specs.ThreadNames.{NameTakesMemory, last_name_of_each_thread, name_of_thread};
-ghost use Rattle.minidump_records.specs.ThreadNames.{thread_name_in, thread_name_text, thread_names_of};
+ghost use Rattle.minidump_records.specs.ThreadNames.{NameTakesMemory, all_names_of, name_of_thread, names_in};
+ghost use Rattle.minidump_records.specs.ThreadNames.{thread_name_text, thread_names_of};
 ghost use Rattle.minidump_records.specs.ThreadNames.{thread_names_stream, thread_names_text};
 
 use minidump_bytes::{Endian, Entries, Piece, Source, Steps, Told, push_pieces};
@@ -25,15 +24,18 @@ use std::io::Write;
 #[derive(Drop)]
 pub struct MinidumpThreadNames {
     names: BTreeMap<u32, String>,
+    unreadable: u64,
 }
 
 impl MinidumpThreadNames {
     /// Makes an empty map. Takes no memory.
     pub fn new(alloc: Global) -> MinidumpThreadNames
-        ensures { thread_names_of result ≡ [] }
+        ensures names { thread_names_of result ≡ [] }
+        ensures unreadable { (all_names_of result).unreadable ≡ 0 }
     {
         MinidumpThreadNames {
             names: BTreeMap::new(alloc),
+            unreadable: 0,
         }
     }
 
@@ -54,19 +56,28 @@ impl MinidumpThreadNames {
     /// Returns the name of a thread, or `None` if it has none.
     pub fn get_name(&self, thread_id: u32) -> Option<&str>
         ensures { option_copied result
-            ≡ name_of_thread (thread_names_stream.value self.now) thread_id }
+            ≡ name_of_thread (thread_names_stream.value self.now).names thread_id }
     {
         let name = self.names.get(&thread_id)?;
         Some(name.as_str())
     }
 
+    /// Returns how many entries of the stream name a text where none is. One whose RVA is 0 names
+    /// none. Such an entry is damage, and gives no name. Returns 0 for names that no stream made.
+    pub fn unreadable_names(&self) -> u64
+        ensures { result ≡ (all_names_of self.now).unreadable }
+    {
+        self.unreadable
+    }
+
     /// Copies the names. The only error is [`Error::OutOfMemory`].
     pub fn try_clone(&self, _alloc: Global) -> Result<MinidumpThreadNames, Error>
-        ensures same { IfOk result (λ copy. thread_names_of copy ≡ thread_names_of self.now) }
+        ensures same { IfOk result (λ copy. all_names_of copy ≡ all_names_of self.now) }
         ensures memory { IsOkUnless result Error.OutOfMemory }
     {
         Ok(MinidumpThreadNames {
             names: self.names.clone()?,
+            unreadable: self.unreadable,
         })
     }
 
@@ -103,12 +114,13 @@ impl<'l> IntoIterator for &'l MinidumpThreadNames {
 }
 
 /// Reads Microsoft's `MINIDUMP_THREAD_NAME_LIST`: a plain list of entries. An entry whose name is
-/// no text is skipped. If several entries name one thread, the last name is kept.
+/// no text is skipped; of those whose RVA isn't 0
+/// [`unreadable_names`](MinidumpThreadNames::unreadable_names) has the number. If several entries
+/// name one thread, the last name is kept.
 impl<'a> MinidumpStream<'a> for MinidumpThreadNames {
-    ghost use Rattle.std.specs.Prelude.{List};
-    ghost use Rattle.minidump_records.specs.ThreadNames.{ThreadName, thread_names_stream};
+    ghost use Rattle.minidump_records.specs.ThreadNames.{ThreadNames, thread_names_stream};
 
-    ghost Value = { List ThreadName };
+    ghost Value = { ThreadNames };
 
     ghost spec = { thread_names_stream };
 
@@ -127,36 +139,43 @@ impl<'a> MinidumpStream<'a> for MinidumpThreadNames {
         steps: &mut Steps,
     ) -> Result<Self, Error> {
         let raws = plain_entries::<MINIDUMP_THREAD_NAME>(bytes, endian, steps)?;
-        Ok(MinidumpThreadNames {
-            names: read_names(alloc, raws, all, endian, steps)?,
-        })
+        Ok(read_names(alloc, raws, all, endian, steps)?)
     }
 }
 
-// Reads the names of entries, and keeps the last name of each thread.
+// Reads the names of entries, keeps the last name of each thread, and counts the entries that name a
+// text where none is.
 fn read_names(
     alloc: Global,
     raws: Entries<'_, MINIDUMP_THREAD_NAME>,
     all: Source<'_>,
     endian: Endian,
     steps: &mut Steps,
-) -> Result<BTreeMap<u32, String>, AllocError>
-    ensures names { IfOk result (λ names. map (λ e. (e.0, string_bytes e.1)) names.entries
-        ≡ last_name_of_each_thread (2 ^ 32)
-        (filter_map (thread_name_in endian (bytes_of all.entry)) raws.entry)) }
+) -> Result<MinidumpThreadNames, AllocError>
+    ensures names { IfOk result
+        (λ names. all_names_of names ≡ names_in endian (bytes_of all.entry) raws.entry) }
     ensures memory { OnErr result (Any (NameTakesMemory endian (bytes_of all.entry)) raws.entry) }
     ensures within { steps.new ≤ steps.old + 2 * length raws.entry }
     ensures grows { steps.old ≤ steps.new }
     ensures steps { IfOk result (λ _. steps.new ≡ after steps.old (2 * length raws.entry)) }
 {
     let mut names = BTreeMap::new(alloc);
+    let mut unreadable = 0;
     for index in 0..raws.len() {
         let raw = raws.read(index, steps);
-        if let Some(name) = read_name(alloc, &raw, all, endian, steps)? {
-            put_name(&mut names, raw.thread_id, name)?;
+        match read_name(alloc, &raw, all, endian, steps)? {
+            Some(name) => put_name(&mut names, raw.thread_id, name)?,
+            None => unreadable += unless_zero(raw.thread_name_rva),
         }
     }
-    Ok(names)
+    Ok(MinidumpThreadNames { names, unreadable })
+}
+
+// Returns 1 for an RVA that isn't 0, and 0 for 0.
+fn unless_zero(rva: u64) -> u64
+    ensures { result ≡ (if rva == 0 then 0 else 1) }
+{
+    if rva == 0 { 0 } else { 1 }
 }
 
 // Reads the name of an entry, or returns `Ok(None)` if it is no text.

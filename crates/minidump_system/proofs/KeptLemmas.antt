@@ -2,7 +2,7 @@
 use Rattle.std.proofs.Common.{◌≡◌, ℕ, ◌+◌, ◌<◌, List, [], ◌∷◌, ◌++◌, length, get_or, take, drop, map, Result, Ok, Err, Option, Some, None, refl, ap, sym}
 use Rattle.std.proofs.Common.{◌∙◌, add-one, append-nil, arith, drop-cons}
 use Rattle.std.specs.Prelude.{Bool, true, false, filter}
-use Rattle.std.specs.List.{cons_option, filter_map, sum_by}
+use Rattle.std.specs.List.{cons_option, sum_by}
 use Rattle.std.proofs.lemmas.List.{take-append-drop, take_more}
 use Rattle.std.proofs.lemmas.List.Sums.{sum_by-cons}
 use Rattle.minidump_format.specs.declared.error.Error.{Error}
@@ -61,13 +61,7 @@ module _ {R V : Type 0} (read : R → Result (Option V) Error) (xs : List R) (i 
       let split : xs ≡ take i xs ++ x ∷ drop (i + 1) xs = split_at xs i x inside item in
       rw split (rw (all_kept-append read (take i xs) (x ∷ drop (i + 1) xs), so_far, first_err read x (drop (i + 1) xs) e one) refl)
 
--- reads without an error
-pub kept_filtered : {R V : Type 0} (f : R → Option V) (xs : List R) → all_kept (λ x. Ok (f x)) xs ≡ Ok (filter_map f xs)
-unfolding all_kept
-kept_filtered f [] = refl
-kept_filtered f (x ∷ xs) = rw (kept_filtered f xs) refl
-
--- and none is skipped
+-- reads without an error: none is skipped
 pub kept_mapped : {R V : Type 0} (f : R → V) (xs : List R) → all_kept (λ x. Ok (Some (f x))) xs ≡ Ok (map f xs)
 unfolding all_kept
 kept_mapped f [] = refl

@@ -13,7 +13,7 @@ use Rattle.minidump.specs.Below.MemoryLists.Unified.{UnifiedRegion}
 use Rattle.minidump.specs.Below.System.Cpu.{pointer_bytes}
 use Rattle.stack_walk.specs.declared.frame.FrameTrust.TheVariants.{FramePointer}
 use Rattle.stack_walk.specs.declared.frame.StackFrame.{StackFrame}
-use Rattle.stack_walk.specs.Addresses.{address_after, unsigned}
+use Rattle.stack_walk.specs.Addresses.{address_after, unmarked, unsigned}
 use Rattle.stack_walk.specs.Frames.{StackValue, caller_at, caller_by, caller_of, pointer_at, pointer_in, return_at, stack_bytes}
 use Rattle.stack_walk.specs.Lookups.{call_site, is_code}
 use Rattle.stack_walk.proofs.AddressLemmas.{sum_after}
@@ -105,21 +105,21 @@ record At (s : StackValue) (size address : ℕ) (g : StackFrame) : Type 0 where
   after : g.stack_pointer ≡ address + 2 * size
   trust : g.trust ≡ FramePointer
 
--- a caller has the return address and the saved frame pointer
+-- a caller has the return address, and the saved frame pointer without its mark
 by_call : (s : StackValue) (after saved address : ℕ) (g : StackFrame) → caller_by s after saved address ≡ Some g
-    → ◌≡◌ {A = StackFrame} (record { instruction = address; stack_pointer = after; frame_pointer = Some saved; trust = FramePointer }) g
+    → ◌≡◌ {A = StackFrame} (record { instruction = address; stack_pointer = after; frame_pointer = Some (unmarked saved); trust = FramePointer }) g
 by_call s after saved address g e =
     let call =
     step (λ call. if is_code s.modules call
-    then Some (record { instruction = address; stack_pointer = after; frame_pointer = Some saved; trust = FramePointer })
+    then Some (record { instruction = address; stack_pointer = after; frame_pointer = Some (unmarked saved); trust = FramePointer })
     else None) (call_site s.cpu address) g e
     in
     let code =
     passed (is_code s.modules call.0)
-    (Some (record { instruction = address; stack_pointer = after; frame_pointer = Some saved; trust = FramePointer })) g call.2
+    (Some (record { instruction = address; stack_pointer = after; frame_pointer = Some (unmarked saved); trust = FramePointer })) g call.2
     in
     let same : ◌≡◌ {A = Option StackFrame}
-    (Some (record { instruction = address; stack_pointer = after; frame_pointer = Some saved; trust = FramePointer })) (Some g) =
+    (Some (record { instruction = address; stack_pointer = after; frame_pointer = Some (unmarked saved); trust = FramePointer })) (Some g) =
     code.1
     in cc
 

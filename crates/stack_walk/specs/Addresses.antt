@@ -1,4 +1,4 @@
--- Which numbers are addresses, and which bits of a return address are the address.
+-- Which numbers are addresses, and which bits of a return address or a saved frame pointer are one.
 use Rattle.std.specs.Prelude.{ℕ, ◌+◌, ◌/◌, ◌%◌, ◌^◌, ◌==◌, max, nat_lt, Bool, List, map, Option, Some, None}
 use Rattle.std.specs.Prelude.{if◌then◌else◌}
 use Rattle.std.specs.List.{fold}
@@ -23,8 +23,8 @@ unfoldable pub address_after : PointerWidth → ℕ → ℕ → Option ℕ
 address_after width address size =
     if is_address width (address + size) then Some (address + size) else None
 
--- the last address of a module: 0 if it has none, or one beyond the largest space of addresses that a
--- process of ARM64 has, of 52 bits
+-- the last address of a module: 0 if it has none, or one beyond the spaces of addresses that systems
+-- give a process of ARM64 today, of at most 52 bits
 abbrev pub last_of_module : ModuleValue → ℕ
 last_of_module m = if nat_lt (last_address range_of_module m) (2 ^ 52)
     then last_address range_of_module m else 0
@@ -57,3 +57,10 @@ is_in_upper_half word = word / 2 ^ 55 % 2 == 1
 -- which no process has, stays as it is
 abbrev pub unsigned : ℕ → ℕ → ℕ
 unsigned bits word = if is_in_upper_half word then word else word % 2 ^ bits
+
+-- a saved frame pointer without the mark of Swift: on Apple's systems of 64 bits an async function sets
+-- bit 60 of the one that it saves. A word whose bits from 60 up are anything else has no mark, and stays
+-- as it is. The system and the processor don't matter: no address of a process has bit 60 alone of these
+-- four bits, and a word of 32 bits has none of them
+abbrev pub unmarked : ℕ → ℕ
+unmarked word = if word / 2 ^ 60 == 1 then word % 2 ^ 60 else word

@@ -19,14 +19,14 @@ use Rattle.minidump.specs.Below.MemoryLists.Unified.{UnifiedRegion, UnifiedRegio
 use Rattle.minidump.specs.Below.MemoryLists.Unified.{unified_region}
 use Rattle.minidump.specs.Below.MemoryLists.UnifiedInfo.{InfoRegion, info_list, info_regions}
 use Rattle.minidump.specs.Below.Modules.Module.{ModuleValue}
+use Rattle.minidump.specs.Below.Modules.ModuleList.{module_list_of}
 use Rattle.minidump.specs.Below.System.Cpu.{pointer_bytes}
-use Rattle.minidump.specs.Promise.{module_list_stream}
 use Rattle.stack_walk.specs.declared.frame.FrameTrust.{FrameTrust}
 use Rattle.stack_walk.specs.declared.frame.FrameTrust.TheVariants.{Context, Cfi, FramePointer, Scan}
 use Rattle.stack_walk.specs.declared.frame.FrameTrust.TheVariants.{Link}
 use Rattle.stack_walk.specs.declared.frame.StackFrame.{StackFrame}
 use Rattle.stack_walk.specs.declared.stack.Stack.{Stack}
-use Rattle.stack_walk.specs.Addresses.{address_after, unsigned}
+use Rattle.stack_walk.specs.Addresses.{address_after, unmarked, unsigned}
 use Rattle.stack_walk.specs.Calls.{is_past_headers, may_end_call}
 use Rattle.stack_walk.specs.Lookups.{call_site, is_code, may_be_run}
 
@@ -46,7 +46,7 @@ pub record StackValue : Type 0 where
 abbrev pub stack_of : Stack → StackValue
 stack_of s = record {
   region = option_map unified_region s.memory;
-  modules = module_list_stream.value s.modules.now;
+  modules = module_list_of s.modules.now;
   memory = unified_list s.code.now;
   infos = info_regions (info_list s.infos.now);
   cpu = s.cpu;
@@ -115,13 +115,14 @@ link_in c = if has_link c.raw then valid_value_in c.valid (registers_of c.raw) (
 -- ---- callers, by frame pointers
 
 -- the caller that a record gives, by the address after the record, the saved frame pointer and the
--- return address; none where no kept module has the call
+-- return address; none where no kept module has the call. Its frame pointer is the saved one without
+-- the mark of Swift
 abbrev pub caller_by : StackValue → ℕ → ℕ → ℕ → Option StackFrame
 caller_by s after saved address = option_and_then (λ call. if is_code s.modules call
     then Some (record {
       instruction = address;
       stack_pointer = after;
-      frame_pointer = Some saved;
+      frame_pointer = Some (unmarked saved);
       trust = FramePointer;
     })
     else None) (call_site s.cpu address)

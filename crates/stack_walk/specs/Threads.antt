@@ -10,10 +10,11 @@ use Rattle.minidump.specs.Below.MemoryLists.Unified.{UnifiedRegion, UnifiedRegio
 use Rattle.minidump.specs.Below.MemoryLists.Unified.{unified_regions}
 use Rattle.minidump.specs.Below.MemoryLists.UnifiedInfo.{InfoRegion, info_list, info_regions}
 use Rattle.minidump.specs.Below.Modules.Module.{ModuleValue}
+use Rattle.minidump.specs.Below.Modules.ModuleList.{module_list_of}
 use Rattle.minidump.specs.Below.System.Cpu.{width_of}
 use Rattle.minidump.specs.Below.System.System.{System}
 use Rattle.minidump.specs.Exception.{Exception}
-use Rattle.minidump.specs.Promise.{exception_stream, module_list_stream, system_info_stream}
+use Rattle.minidump.specs.Promise.{exception_stream, system_info_stream}
 use Rattle.minidump.specs.Thread.{Thread, accepted_context}
 use Rattle.minidump.specs.ThreadText.{stack_of}
 use Rattle.stack_walk.specs.declared.frame.StackFrame.{StackFrame}
@@ -36,7 +37,7 @@ abbrev pub process_of : Process → ProcessValue
 process_of p = record {
   system = system_info_stream.value p.system.now;
   exception = option_map exception_stream.value (option_copied p.exception);
-  modules = module_list_stream.value p.modules.now;
+  modules = module_list_of p.modules.now;
   memory = unified_list p.memory.now;
   infos = info_regions (info_list p.infos.now);
   code_bits = p.code_bits;

@@ -1,9 +1,10 @@
 ghost use Rattle.std.specs.Prelude.{◌≡◌, ◌+◌, IfSome, map};
 ghost use Rattle.minidump.specs.Below.Index.Digits.{digits};
 ghost use Rattle.minidump.specs.Below.Modules.Module.{module_of};
-ghost use Rattle.minidump.specs.Promise.{module_list_stream};
+ghost use Rattle.minidump.specs.Below.Modules.ModuleList.{module_list_of};
 ghost use Rattle.stack_walk.specs.Addresses.{address_after, code_bits, is_address, last_code};
 ghost use Rattle.stack_walk.specs.Addresses.{is_in_upper_half, last_of_module, least_bits};
+ghost use Rattle.stack_walk.specs.Addresses.{unmarked};
 
 use minidump::system_info::{Cpu, Os, PointerWidth};
 use minidump::{MinidumpModule, MinidumpModuleList, Region};
@@ -11,10 +12,10 @@ use minidump::{MinidumpModule, MinidumpModuleList, Region};
 /// Returns how many of the low bits of a return address are its address. ARM64 may sign a return
 /// address, by bits above those of any address: these are as many as the last address of all modules
 /// has, but at least 47 on Windows and macOS, 39 on iOS, and else 36, the fewest that Linux has. A
-/// module beyond 2^52, where no process has one, is passed over. Other processors sign none: they have
-/// 64.
+/// module beyond 2^52, where no system gives a process one today, is passed over. Other processors sign
+/// none: they have 64.
 pub fn code_bits(os: Os, cpu: Cpu, modules: &MinidumpModuleList) -> u32
-    ensures { result ≡ code_bits os cpu (module_list_stream.value modules.now) }
+    ensures { result ≡ code_bits os cpu (module_list_of modules.now) }
 {
     match cpu {
         Cpu::Arm64 => digits_of(last_code(modules.as_slice())).max(least_bits(os)),
@@ -78,6 +79,18 @@ pub(crate) fn is_in_upper_half(word: u64) -> bool
     ensures { result ≡ is_in_upper_half word }
 {
     word / (1 << 55) % 2 == 1
+}
+
+// Returns a saved frame pointer without the mark of Swift: bit 60, if it is the only one of the four
+// highest that is set.
+pub(crate) fn unmarked(word: u64) -> u64
+    ensures { result ≡ unmarked word }
+{
+    if word / (1 << 60) == 1 {
+        word % (1 << 60)
+    } else {
+        word
+    }
 }
 
 // Returns the address so many bytes after another, or `None` if there is none.

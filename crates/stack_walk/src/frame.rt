@@ -1,7 +1,7 @@
 ghost use Rattle.std.specs.Prelude.{◌≡◌};
 ghost use Rattle.std.specs.Option.{option_copied, option_map};
 ghost use Rattle.minidump.specs.Below.Modules.Module.{module_of};
-ghost use Rattle.minidump.specs.Promise.{module_list_stream};
+ghost use Rattle.minidump.specs.Below.Modules.ModuleList.{module_list_of};
 ghost use Rattle.stack_walk.specs.Evidence.{evidence_address};
 ghost use Rattle.stack_walk.specs.Lookups.{lookup_address, module_at, module_offset_at};
 
@@ -36,8 +36,8 @@ pub struct StackFrame {
     /// scan has the address after its return address, and that of the link register has the stack
     /// pointer of the context: the lowest that its stack pointer can be.
     pub stack_pointer: u64,
-    /// The frame pointer, as the context, the rules or the frame record give it, or `None` if it
-    /// isn't known.
+    /// The frame pointer, as the context, the rules or the frame record give it, the last without the
+    /// mark of Swift, or `None` if it isn't known.
     pub frame_pointer: Option<u64>,
     /// How the frame was found.
     pub trust: FrameTrust,
@@ -67,7 +67,7 @@ impl StackFrame {
         modules: &'l MinidumpModuleList,
     ) -> Option<&'l MinidumpModule>
         ensures { option_map module_of (option_copied result)
-            ≡ module_at (module_list_stream.value modules.now) (lookup_address cpu self.now) }
+            ≡ module_at (module_list_of modules.now) (lookup_address cpu self.now) }
     {
         modules.module_at_address(self.lookup_address(cpu)?)
     }
@@ -75,7 +75,7 @@ impl StackFrame {
     /// Returns the offset of the frame's lookup address in its module, or `None` if it has no
     /// module.
     pub fn module_offset(&self, cpu: Cpu, modules: &MinidumpModuleList) -> Option<u64>
-        ensures { result ≡ module_offset_at (module_list_stream.value modules.now)
+        ensures { result ≡ module_offset_at (module_list_of modules.now)
             (lookup_address cpu self.now) }
     {
         let address = self.lookup_address(cpu)?;

@@ -1,6 +1,6 @@
 ghost use Rattle.std.specs.Prelude.{◌≡◌, Some};
 ghost use Rattle.minidump.specs.Below.MemoryLists.UnifiedInfo.{info_list, info_regions};
-ghost use Rattle.minidump.specs.Promise.{module_list_stream};
+ghost use Rattle.minidump.specs.Below.Modules.ModuleList.{module_list_of};
 ghost use Rattle.stack_walk.specs.Calls.{is_past_headers};
 ghost use Rattle.stack_walk.specs.Lookups.{call_site, is_code, may_be_run, module_offset_at};
 ghost use Rattle.stack_walk.specs.Lookups.{module_place, returns_to};
@@ -27,7 +27,7 @@ fn returns_to(cpu: Cpu, address: u64) -> u64
 
 // Returns the offset of an address in the kept module that contains it.
 pub(crate) fn offset_at(modules: &MinidumpModuleList, address: u64) -> Option<u64>
-    ensures { result ≡ module_offset_at (module_list_stream.value modules.now) (Some address) }
+    ensures { result ≡ module_offset_at (module_list_of modules.now) (Some address) }
 {
     let module = modules.module_at_address(address)?;
     Some(address - module.raw.base_of_image)
@@ -36,7 +36,7 @@ pub(crate) fn offset_at(modules: &MinidumpModuleList, address: u64) -> Option<u6
 /// Returns the index in the list of modules of the kept one that contains an address, and the
 /// offset of the address from its base. Returns `None` if no kept module contains the address.
 pub fn module_place(modules: &MinidumpModuleList, address: u64) -> Option<(usize, u64)>
-    ensures { result ≡ module_place (module_list_stream.value modules.now) address }
+    ensures { result ≡ module_place (module_list_of modules.now) address }
 {
     let (index, module) = modules.numbered_module_at_address(address)?;
     Some((index, address.saturating_sub(module.base_address())))
@@ -44,14 +44,14 @@ pub fn module_place(modules: &MinidumpModuleList, address: u64) -> Option<(usize
 
 /// Tells whether a kept module contains an address.
 pub fn is_code(modules: &MinidumpModuleList, address: u64) -> bool
-    ensures { result ≡ is_code (module_list_stream.value modules.now) address }
+    ensures { result ≡ is_code (module_list_of modules.now) address }
 {
     modules.module_at_address(address).is_some()
 }
 
 // Tells whether a kept module contains an address past its first page.
 pub(crate) fn is_past_headers(modules: &MinidumpModuleList, address: u64) -> bool
-    ensures { result ≡ is_past_headers (module_list_stream.value modules.now) address }
+    ensures { result ≡ is_past_headers (module_list_of modules.now) address }
 {
     match offset_at(modules, address) {
         Some(offset) => offset >= 4096,

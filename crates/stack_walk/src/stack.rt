@@ -2,7 +2,7 @@ ghost use Rattle.std.specs.Prelude.{◌≡◌};
 ghost use Rattle.stack_walk.specs.Addresses.{unsigned};
 ghost use Rattle.stack_walk.specs.Frames.{caller_at, caller_of, pointer_at, return_at, stack_of};
 
-use crate::addresses::{address_after, is_in_upper_half};
+use crate::addresses::{address_after, is_in_upper_half, unmarked};
 use crate::lookups::{call_site, is_code};
 use crate::{FrameTrust, StackFrame};
 use minidump::system_info::{Cpu, PointerWidth};
@@ -92,7 +92,7 @@ fn caller_at(stack: &Stack<'_, '_>, size: u64, address: u64) -> Option<StackFram
         Some(StackFrame {
             instruction,
             stack_pointer,
-            frame_pointer: Some(saved),
+            frame_pointer: Some(unmarked(saved)),
             trust: FrameTrust::FramePointer,
         })
     } else {

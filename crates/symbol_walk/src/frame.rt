@@ -56,8 +56,6 @@ impl RegisterValues for OfContext<'_> {
 struct OfPointers(StackFrame);
 
 impl RegisterValues for OfPointers {
-    ghost use Rattle.symbol_walk.specs.Unwinder.{pointer_value};
-
     ghost value_of = { λ s r. pointer_value s.0 r.role };
 
     fn value(&self, _alloc: Global, register: &Register) -> Result<Option<u64>, AllocError> {

@@ -23,8 +23,8 @@
 //! # Errors
 //!
 //! Status 1: a file can't be read, has more bytes than `--limit`, or is no dump, which is said on
-//! standard error, or in its line of JSON; or a stream, a context or a stack can't be read, in each
-//! of the three forms; or the list of paths can't be read or is too large; or memory ran out for a
+//! standard error, or in its line of JSON; or something of a dump is there and can't be read,
+//! whatever the form; or the list of paths can't be read or is too large; or memory ran out for a
 //! dump. The other dumps are printed all the same. Status 1 also if a file of `--names` can't be
 //! read or is malformed, and then no dump is read; and if memory ran out for anything else, or the
 //! output failed, which ends the program. Status 2: the arguments are malformed, or one isn't

@@ -22,8 +22,8 @@ const EXAMPLES: &str = "Examples:
   find dumps -name '*.dmp' -print0 | whocrashed --json --stdin-paths > crashes.jsonl
 
 The exit status is 0; 1 if a file can't be read, is too large or is no minidump, if a FILE of names can't be read or has a
-malformed line (then no DUMP is read), if a stream is there and can't be read, if the bytes of a context or a stack are
-outside the file, if memory ran out, or if the output failed; 2 if the arguments are refused. What is missing of symbols
+malformed line (then no DUMP is read), if something of a dump is there and can't be read, as a stream, a stack, a module or
+a name, if memory ran out, or if the output failed; 2 if the arguments are refused. What is missing of symbols
 doesn't change it. If the pipe that is written to is closed, the run ends with the status of the dumps before.";
 
 // What stands behind an option.

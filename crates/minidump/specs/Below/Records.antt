@@ -1,4 +1,5 @@
 -- What `minidump_records` defines, for the crates above this one.
+pub use Rattle.minidump_records.specs.NamedText
 pub use Rattle.minidump_records.specs.ThreadNames
 pub use Rattle.minidump_records.specs.ThreadInfo
 pub use Rattle.minidump_records.specs.Crashpad.Annotations

@@ -18,4 +18,4 @@ returns-clause-findings c =
     parts_are_crash c.args.names.now c.args.scan (dump_of c.args.dump.now) (contents_of c.args.contents.now)
     (directory_of parts.directory) (process_of parts.process) (cause_of found.cause) (threads_of found.threads) (option_map point_of found.point)
     (modules_of parts.modules) c.in_ok-damage.damage.items parts.ensures.directory parts.ensures.process found.ensures.cause found.ensures.threads
-    found.ensures.point parts.ensures.modules c.in_ok-damage.ensures
+    found.ensures.point parts.ensures.modules c.in_ok-damage.ensures.damage

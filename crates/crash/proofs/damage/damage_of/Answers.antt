@@ -1,12 +1,13 @@
 -- One list after another.
-use Rattle.std.proofs.Common.{◌≡◌, ◌∙◌, ◌-◌, ◌++◌, [], ◌∷◌, List, ap, append_assoc, length, rules, take, tests}
+use Rattle.std.proofs.Common.{◌≡◌, ◌∙◌, ◌-◌, ◌++◌, List, Option, ap, append_assoc, length, rules, take, tests}
 use Rattle.std.proofs.lemmas.Iterator.{YieldsList-from_slice, items_from_collect}
 use Rattle.std.proofs.lemmas.Iterator.Consumers.{YieldsList-at, YieldsList-from_chain, YieldsList-from_filter_map}
 use Rattle.std.proofs.lemmas.Result.{IfOk-weaker}
 use Rattle.std.specs.List.{filter_map}
 use Rattle.minidump.specs.Below.Contexts.Context.{map_ok}
 use Rattle.crash.specs.Cause.{exception_of}
-use Rattle.crash.specs.Damage.{context_damage, exception_damage, exception_error, regions_damage, stack_damage, stream_damage}
+use Rattle.crash.specs.declared.damage.Damage.{Damage}
+use Rattle.crash.specs.Damage.{context_damage, exception_damage, exception_error, stack_damage, stream_damage}
 use Rattle.crash.specs.Threads.{thread_value}
 use Rattle.crash.proofs.Found.{found_in_values, values_before}
 use Rattle.crash.proofs.damage.damage_of.Goals as goal
@@ -17,25 +18,25 @@ joined a b same_c same_d same_e same_f = rw (same_c, same_d, same_e, same_f) (si
 
 pub returns : goal.returns
 returns c =
-    let entries = c.args.entries.now in
-    let regions = c.args.regions ∷ [] in
+    let streams = c.args.streams.now in
+    let counted = c.args.counted.now in
     let exceptions = c.args.exceptions.now in
     let threads = c.args.threads.now in
     let before = take (length exceptions - 1) exceptions in
     IfOk-weaker c.collect.result (λ damage. damage.items
-    ≡ ((((filter_map stream_damage entries ++ filter_map regions_damage regions)
+    ≡ ((((filter_map stream_damage streams ++ filter_map (λ (d : Option Damage). d) counted)
     ++ filter_map (λ e. exception_error (map_ok exception_of e)) c.before_last-before.result.now)
     ++ filter_map (λ e. exception_damage (map_ok exception_of e)) exceptions) ++ filter_map (λ t. context_damage (thread_value t)) threads)
     ++ filter_map (λ t. stack_damage (thread_value t)) threads) _
-    (λ damage is. is ∙ joined (filter_map stream_damage entries) (filter_map regions_damage regions)
+    (λ damage is. is ∙ joined (filter_map stream_damage streams) (filter_map (λ (d : Option Damage). d) counted)
     (ap (filter_map (λ e. exception_error (map_ok exception_of e))) c.before_last-before.ensures
     ∙ found_in_values (map_ok exception_of) exception_error before ∙ ap (filter_map exception_error) (values_before (map_ok exception_of) exceptions))
     (found_in_values (map_ok exception_of) exception_damage exceptions) (found_in_values thread_value context_damage threads)
     (found_in_values thread_value stack_damage threads))
     (items_from_collect _ c.collect.ensures.ran
-    (YieldsList-from_chain (YieldsList-at c.chain-5.ensures.first (YieldsList-from_chain (YieldsList-at c.chain-4.ensures.first (YieldsList-from_chain (YieldsList-at c.chain-3.ensures.first (YieldsList-from_chain (YieldsList-at c.chain-2.ensures.first (YieldsList-from_chain (YieldsList-at c.chain.ensures.first (YieldsList-from_filter_map _ stream_damage (YieldsList-at c.filter_map.ensures.source (YieldsList-from_slice entries c.iter.ensures.rest))
+    (YieldsList-from_chain (YieldsList-at c.chain-5.ensures.first (YieldsList-from_chain (YieldsList-at c.chain-4.ensures.first (YieldsList-from_chain (YieldsList-at c.chain-3.ensures.first (YieldsList-from_chain (YieldsList-at c.chain-2.ensures.first (YieldsList-from_chain (YieldsList-at c.chain.ensures.first (YieldsList-from_filter_map _ stream_damage (YieldsList-at c.filter_map.ensures.source (YieldsList-from_slice streams c.iter.ensures.rest))
     c.filter_map.ensures.closure (λ x r q k. search (rules, tests))))
-    (YieldsList-at c.chain.ensures.second (YieldsList-from_filter_map _ regions_damage (YieldsList-at c.filter_map-2.ensures.source (YieldsList-from_slice regions c.iter-2.ensures.rest))
+    (YieldsList-at c.chain.ensures.second (YieldsList-from_filter_map _ (λ (d : Option Damage). d) (YieldsList-at c.filter_map-2.ensures.source (YieldsList-from_slice counted c.iter-2.ensures.rest))
     c.filter_map-2.ensures.closure (λ x r q k. search (rules, tests))))
     c.chain.ensures.first_done c.chain.ensures.second_done))
     (YieldsList-at c.chain-2.ensures.second (YieldsList-from_filter_map _ (λ e. exception_error (map_ok exception_of e)) (YieldsList-at c.filter_map-3.ensures.source (YieldsList-from_slice c.before_last-before.result.now c.iter-3.ensures.rest))
