@@ -16,7 +16,7 @@ pub parts_are_crash : (names : Lists) (scan : ℕ) (d : Dump) (c : ContentsValue
     (threads : ThreadsValue) (point : Option PointValue) (modules : ModulesValue) (damage : List Damage) → directory ≡ directory_in d c
     → process ≡ process_in d c → cause ≡ cause_in names c → threads ≡ threads_in names scan c
     → point ≡ point_in c threads.crashing → modules ≡ modules_in d c
-    → damage ≡ damage_in d c directory process cause threads
+    → damage ≡ damage_in c directory process cause threads
     → ◌≡◌ {A = CrashValue} (record { contents = c; directory = directory; process = process; cause = cause; threads = threads; point = point; modules = modules; damage = damage })
     (crash_by names scan d c)
 parts_are_crash names scan d c directory process cause threads point modules damage of_directory of_process of_cause of_threads of_point of_modules of_damage =

@@ -16,7 +16,7 @@ use Rattle.minidump.specs.Below.Modules.UnloadedModule.{UnloadedValue}
 use Rattle.minidump.specs.Below.Records.BootArgs.{BootArgs}
 use Rattle.minidump.specs.Below.Records.Crashpad.{Crashpad}
 use Rattle.minidump.specs.Below.Records.Handles.{Handle}
-use Rattle.minidump.specs.Below.Records.Record.{MacRecord}
+use Rattle.minidump.specs.Below.Records.MacCrashInfo.{MacRecords}
 use Rattle.minidump.specs.Below.Records.ThreadNames.{ThreadNames}
 use Rattle.minidump.specs.Below.Stability.StabilityReport.{Report}
 use Rattle.minidump.specs.Below.System.System.{System}
@@ -152,7 +152,7 @@ space_streams_of s = record {
 pub record MessageStreamValues : Type 0 where
   pub assertion : Result MINIDUMP_ASSERTION_INFO Error
   pub crashpad : Result Crashpad Error
-  pub mac_crash_info : Result (List MacRecord) Error
+  pub mac_crash_info : Result MacRecords Error
   pub mac_boot_args : Result BootArgs Error
   pub soft_errors : Result (List ℕ) Error
   pub stability : Result Report Error

@@ -57,10 +57,10 @@ crash_of_findings c f = record {
 }
 
 -- what is there and can't be read
-abbrev pub damage_in : Dump → ContentsValue → DirectoryValue → ProcessFacts → CauseValue
-    → ThreadsValue → List Damage
-damage_in d c directory process cause threads = damage_by directory.entries
-    (counted_damage d c process.comments) cause.exceptions threads.threads
+abbrev pub damage_in : ContentsValue → DirectoryValue → ProcessFacts → CauseValue → ThreadsValue
+    → List Damage
+damage_in c directory process cause threads = damage_by directory.entries
+    (counted_damage c directory process.comments) cause.exceptions threads.threads
 
 -- the crash of a dump, by its contents and by what is found in them
 abbrev crash_with : Dump → ContentsValue → DirectoryValue → CauseValue → ThreadsValue → CrashValue
@@ -72,7 +72,7 @@ crash_with d c directory cause threads = record {
   threads = threads;
   point = point_in c threads.crashing;
   modules = modules_in d c;
-  damage = damage_in d c directory (process_in d c) cause threads;
+  damage = damage_in c directory (process_in d c) cause threads;
 }
 
 -- the crash of a dump with these contents

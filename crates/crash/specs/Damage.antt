@@ -2,11 +2,14 @@
 use Rattle.std.specs.Prelude.{ℕ, ◌-◌, ◌==◌, ◌++◌, Bool, false, true, List, [], ◌∷◌, length, take, Option, Some}
 use Rattle.std.specs.Prelude.{None, Result, Ok, Err, if◌then◌else◌}
 use Rattle.std.specs.List.{filter_map}
-use Rattle.std.specs.Option.{option_map}
+use Rattle.std.specs.Option.{option_map, option_map_or}
+use Rattle.std.specs.Result.{result_ok}
 use Rattle.minidump.specs.declared.Error.{Error}
-use Rattle.minidump.specs.Dump.{Dump}
+use Rattle.minidump.specs.declared.format.MINIDUMP_STREAM_TYPE.TheVariants.{CommentStreamW}
+use Rattle.minidump.specs.Below.Format.StreamType.{number_of}
+use Rattle.minidump.specs.Below.Records.MacCrashInfo.{MacRecords}
 use Rattle.minidump.specs.Promise.{assertion_stream, handle_data_stream, mac_bootargs_stream}
-use Rattle.minidump.specs.Promise.{system_info_stream, thread_names_stream}
+use Rattle.minidump.specs.Promise.{mac_crash_info_stream, system_info_stream, thread_names_stream}
 use Rattle.crash.specs.declared.contexts.ContextProblem.{ContextProblem}
 use Rattle.crash.specs.declared.contexts.ContextProblem.TheVariants.{Outside}
 use Rattle.crash.specs.declared.damage.Damage.{Damage}
@@ -15,7 +18,8 @@ use Rattle.crash.specs.declared.directory.StreamEntry.{StreamEntry}
 use Rattle.crash.specs.Cause.{ExceptionValue}
 use Rattle.crash.specs.Contents.{ContentsValue}
 use Rattle.crash.specs.ProcessTexts.{CommentsValue}
-use Rattle.crash.specs.Texts.{assertion_lacking, boot_args_lacking, comment_lacking, handles_lacking}
+use Rattle.crash.specs.Directory.{DirectoryValue}
+use Rattle.crash.specs.Texts.{assertion_lacking, boot_args_lacking, handles_lacking, one_if}
 use Rattle.crash.specs.Texts.{system_lacking, threads_lacking}
 use Rattle.crash.specs.Threads.{ThreadValue}
 
@@ -31,17 +35,27 @@ if_any count d = if count == 0 then None else Some d
 abbrev pub texts_damage : ℕ → ℕ → Option Damage
 texts_damage number count = if_any count (damage.Texts number count)
 
--- what is told by its number: regions outside the file, modules without addresses, and texts by their
--- streams, ascending by type
-abbrev pub counted_damage : Dump → ContentsValue → CommentsValue → List (Option Damage)
-counted_damage d c comments =
-    if_any c.space.regions_outside (damage.Regions c.space.regions_outside)
+-- the records of a stream that can't be read, by its type, where there are any
+abbrev pub records_damage : ℕ → ℕ → Option Damage
+records_damage number count = if_any count (damage.Records number count)
+
+-- how many records of macOS's crash information can't be read
+abbrev pub records_lacking : Result MacRecords Error → ℕ
+records_lacking found = option_map_or (λ all. all.unreadable) (result_ok found) 0
+
+-- what is told by its number: entries and regions outside the file, modules without addresses, and
+-- texts and records by their streams, ascending by type
+abbrev pub counted_damage : ContentsValue → DirectoryValue → CommentsValue → List (Option Damage)
+counted_damage c directory comments =
+    if_any directory.entries_outside (damage.Entries directory.entries_outside)
+    ∷ if_any c.space.regions_outside (damage.Regions c.space.regions_outside)
     ∷ if_any c.space.without_addresses (damage.Modules c.space.without_addresses)
     ∷ texts_damage system_info_stream.stream_type (system_lacking c.system.system)
-    ∷ texts_damage 11 (comment_lacking d comments)
+    ∷ texts_damage (number_of CommentStreamW) (one_if comments.lacks_partner)
     ∷ texts_damage handle_data_stream.stream_type (handles_lacking c.process.handles)
     ∷ texts_damage thread_names_stream.stream_type (threads_lacking c.threads.names)
     ∷ texts_damage assertion_stream.stream_type (assertion_lacking c.messages.assertion)
+    ∷ records_damage mac_crash_info_stream.stream_type (records_lacking c.messages.mac_crash_info)
     ∷ texts_damage mac_bootargs_stream.stream_type (boot_args_lacking c.messages.mac_boot_args)
     ∷ []
 

@@ -1,6 +1,8 @@
 -- What the header and the directory of a dump say: when it was written, which streams it has, each
--- with the error for which it can't be read, and how many entries lie outside the file.
-use Rattle.std.specs.Prelude.{◌≡◌, ℕ, List, count_by, is_none, map, Option, Some, None, Result, Err}
+-- with the error for which it can't be read, and how many entries are lost: they don't decide, and lie
+-- outside the file.
+use Rattle.std.specs.Prelude.{◌≡◌, ◌==◌, ◌&&◌, ℕ, Bool, List, count_by, is_none, map, not, Option}
+use Rattle.std.specs.Prelude.{Some, None, Result, Err}
 use Rattle.std.specs.List.{last_or}
 use Rattle.std.specs.Option.{option_and_then}
 use Rattle.std.specs.Result.{result_err}
@@ -20,7 +22,7 @@ use Rattle.crash.specs.declared.directory.CrashDirectory.{CrashDirectory}
 use Rattle.crash.specs.declared.directory.StreamEntry.{StreamEntry}
 use Rattle.crash.specs.Contents.{ContentsValue}
 
--- when a dump was written, its streams, and how many entries lie outside the file
+-- when a dump was written, its streams, and how many entries are lost
 pub record DirectoryValue : Type 0 where
   pub written : ℕ
   pub entries : List StreamEntry
@@ -104,9 +106,16 @@ entries_in d c = map (entry_in d c) (entries_of (streams_of d))
 abbrev pub all_entries : Dump → List MINIDUMP_DIRECTORY
 all_entries d = directory d.order d.file d.header
 
--- how many of them have bytes that are not all in the file
+-- an entry is lost: its bytes are not all in the file, but those of the stream of its type are, which
+-- another entry decides. Of exceptions each entry is read
+abbrev pub is_lost : List ℕ → Dump → MINIDUMP_DIRECTORY → Bool
+is_lost file d e = is_none (located file e.location)
+    && (is_none (raw_error d e.stream_type)
+    && not (e.stream_type == exception_stream.stream_type))
+
+-- how many of them there are
 abbrev pub outside_in : Dump → ℕ
-outside_in d = count_by (λ e. is_none (located d.file e.location)) (all_entries d)
+outside_in d = count_by (is_lost d.file d) (all_entries d)
 
 -- what the directory of a dump says
 abbrev pub directory_in : Dump → ContentsValue → DirectoryValue

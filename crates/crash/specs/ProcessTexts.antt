@@ -1,16 +1,19 @@
 -- The texts of a process: what Linux's files say of it, its command line, and the comments of the
 -- dump.
 use Rattle.std.specs.Prelude.{ℕ, ◌*◌, ◌/◌, ◌^◌, ◌==◌, List, bytes_eq, codes, find, length, map, nat_lt}
-use Rattle.std.specs.Prelude.{Option, Some, None, Result, if◌then◌else◌, string_bytes}
+use Rattle.std.specs.Prelude.{Bool, false, Option, Some, None, Result, if◌then◌else◌, is_none}
+use Rattle.std.specs.Prelude.{string_bytes}
 use Rattle.std.specs.List.{before_first}
-use Rattle.std.specs.Option.{option_and_then, option_map}
+use Rattle.std.specs.Option.{option_and_then, option_map, option_map_or}
 use Rattle.std.specs.Result.{result_ok}
 use Rattle.std.specs.Str.Lossy.{utf8_lossy}
 use Rattle.minidump.specs.declared.Endian.{Endian}
 use Rattle.minidump.specs.declared.Error.{Error}
+use Rattle.minidump.specs.declared.format.MINIDUMP_STREAM_TYPE.TheVariants.{CommentStreamA, CommentStreamW}
 use Rattle.minidump.specs.Below.Bytes.Digits.{number_of_digits}
 use Rattle.minidump.specs.Below.Bytes.LinuxOsStr.{before_suffix, trimmed}
 use Rattle.minidump.specs.Below.Bytes.Text16.{text_before_nul, units_at}
+use Rattle.minidump.specs.Below.Format.StreamType.{number_of}
 use Rattle.minidump.specs.Below.Records.Pairs.{pairs_of}
 use Rattle.minidump.specs.Dump.{Dump, raw_stream}
 use Rattle.crash.specs.declared.process_texts.Comments.{Comments}
@@ -64,16 +67,19 @@ command_line_in d = option_map command_text (result_ok (raw_stream 0x47670006 d)
 
 -- ---- the comments
 
--- the comments of a dump: that of bytes, and that of UTF-16
+-- the comments of a dump: that of bytes, and that of UTF-16, and whether a surrogate of that lacks its
+-- partner
 pub record CommentsValue : Type 0 where
   pub narrow : Option (List ℕ)
   pub wide : Option (List ℕ)
+  pub lacks_partner : Bool
 
 -- the same of `Comments`
 abbrev pub comments_of : Comments → CommentsValue
 comments_of c = record {
   narrow = option_map string_bytes c.narrow;
   wide = option_map string_bytes c.wide;
+  lacks_partner = c.lacks_partner;
 }
 
 -- the text of bytes before the first 0, with U+FFFD for what isn't UTF-8
@@ -84,9 +90,15 @@ comment_text bytes = utf8_lossy (before_first (λ b. b == 0) bytes)
 abbrev pub wide_text : Endian → List ℕ → Option (List ℕ)
 wide_text order bytes = text_before_nul (units_at order 0 (length bytes / 2) bytes)
 
+-- the comments of these two streams
+abbrev comments_by : Endian → Option (List ℕ) → Option (List ℕ) → CommentsValue
+comments_by order narrow wide = record {
+  narrow = option_map comment_text narrow;
+  wide = option_and_then (wide_text order) wide;
+  lacks_partner = option_map_or (λ bytes. is_none (wide_text order bytes)) wide false;
+}
+
 -- the comments of the streams CommentStreamA and CommentStreamW
 abbrev pub comments_in : Dump → CommentsValue
-comments_in d = record {
-  narrow = option_map comment_text (result_ok (raw_stream 10 d));
-  wide = option_and_then (wide_text d.order) (result_ok (raw_stream 11 d));
-}
+comments_in d = comments_by d.order (result_ok (raw_stream (number_of CommentStreamA) d))
+    (result_ok (raw_stream (number_of CommentStreamW) d))

@@ -13,8 +13,6 @@ use Rattle.minidump.specs.Below.Records.Handles.{Handle, or_zero}
 use Rattle.minidump.specs.Below.Records.NamedText.{lacks_text}
 use Rattle.minidump.specs.Below.Records.ThreadNames.{ThreadNames}
 use Rattle.minidump.specs.Below.System.System.{System}
-use Rattle.minidump.specs.Dump.{Dump, raw_stream}
-use Rattle.crash.specs.ProcessTexts.{CommentsValue}
 
 -- 1 where a test holds, else 0
 abbrev pub one_if : Bool → ℕ
@@ -24,11 +22,6 @@ one_if holds = if holds then 1 else 0
 abbrev pub system_lacking : Result System Error → ℕ
 system_lacking found =
     option_map_or (λ s. one_if (lacks_text s.raw.csd_version_rva s.csd_version)) (result_ok found) 0
-
--- of the stream CommentStreamW: the comment
-abbrev pub comment_lacking : Dump → CommentsValue → ℕ
-comment_lacking d comments =
-    option_map_or (λ bytes. one_if (is_none comments.wide)) (result_ok (raw_stream 11 d)) 0
 
 -- of a handle: the name of its type, and its own
 abbrev pub names_lacking : Handle → ℕ

@@ -45,8 +45,8 @@ pub struct Crash<'a> {
     /// Its modules.
     pub modules: CrashModules,
     /// What is there and can't be read: streams, ascending by type, then what is told by its number
-    /// (regions of memory, modules and texts), exceptions, contexts of exceptions, own contexts of
-    /// threads, and stacks, each in the order of its list.
+    /// (entries of the directory, regions of memory, modules, texts and records), exceptions,
+    /// contexts of exceptions, own contexts of threads, and stacks, each in the order of its list.
     pub damage: Vec<Damage>,
 }
 
@@ -153,9 +153,7 @@ fn findings_in<'a>(
 {
     let (directory, process, modules) = dump_parts(alloc, file, dump, contents)?;
     let (cause, threads, point) = thread_parts(alloc, contents, names, scan)?;
-    let damage = damage_in(
-        alloc, dump, contents, &directory, &process, &cause, &threads,
-    )?;
+    let damage = damage_in(alloc, contents, &directory, &process, &cause, &threads)?;
     Ok(Findings {
         directory,
         process,
@@ -212,7 +210,6 @@ fn thread_parts<'a>(
 // Returns what is there and can't be read.
 fn damage_in(
     alloc: Global,
-    dump: &Minidump<'_>,
     contents: &Contents<'_>,
     directory: &CrashDirectory,
     process: &CrashProcess,
@@ -220,11 +217,11 @@ fn damage_in(
     threads: &CrashThreads,
 ) -> Result<Vec<Damage>, Error>
     ensures damage { IfOk result (λ damage. damage.items
-        ≡ damage_in (dump_of dump.now) (contents_of contents.now) (directory_of directory.now)
+        ≡ damage_in (contents_of contents.now) (directory_of directory.now)
         (process_of process.now) (cause_of cause.now) (threads_of threads.now)) }
     ensures memory { IsOkUnless result Error.OutOfMemory }
 {
-    let counted = counted_damage(alloc, dump, contents, &process.comments)?;
+    let counted = counted_damage(alloc, contents, directory, &process.comments)?;
     Ok(damage_of(
         alloc,
         directory.entries.as_slice(),

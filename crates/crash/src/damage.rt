@@ -1,26 +1,27 @@
 ghost use Rattle.std.specs.Prelude.{◌≡◌, ◌-◌, IfOk, IsOkUnless, length, map, take};
 ghost use Rattle.minidump.specs.Below.Contexts.Context.{map_ok};
-ghost use Rattle.minidump.specs.DumpValue.{dump_of};
+ghost use Rattle.minidump.specs.Promise.{mac_crash_info_stream};
 ghost use Rattle.crash.specs.Cause.{exception_of};
 ghost use Rattle.crash.specs.Contents.{contents_of};
 ghost use Rattle.crash.specs.Damage.{context_damage, counted_damage, damage_by, exception_damage};
-ghost use Rattle.crash.specs.Damage.{exception_error, if_any, is_outside, stack_damage};
-ghost use Rattle.crash.specs.Damage.{stream_damage, texts_damage};
+ghost use Rattle.crash.specs.Damage.{exception_error, if_any, is_outside, records_damage};
+ghost use Rattle.crash.specs.Damage.{records_lacking, stack_damage, stream_damage, texts_damage};
+ghost use Rattle.crash.specs.Directory.{directory_of};
 ghost use Rattle.crash.specs.ProcessTexts.{comments_of};
 ghost use Rattle.crash.specs.Threads.{thread_value};
 
 use crate::cause::CrashException;
 use crate::contents::Contents;
 use crate::contexts::ContextProblem;
-use crate::directory::StreamEntry;
+use crate::directory::{CrashDirectory, StreamEntry};
 use crate::process_texts::Comments;
 use crate::texts::{
-    assertion_lacking, boot_args_lacking, comment_lacking, handles_lacking, system_lacking,
-    threads_lacking,
+    assertion_lacking, boot_args_lacking, handles_lacking, system_lacking, threads_lacking,
 };
 use crate::threads::CrashThread;
+use minidump::format::MINIDUMP_STREAM_TYPE;
 use minidump::{
-    Error, Minidump, MinidumpAssertion, MinidumpHandleDataStream, MinidumpMacBootargs,
+    Error, MinidumpAssertion, MinidumpHandleDataStream, MinidumpMacBootargs, MinidumpMacCrashInfo,
     MinidumpStream, MinidumpSystemInfo, MinidumpThreadNames,
 };
 use std::alloc::{AllocError, Global};
@@ -37,6 +38,12 @@ pub enum Damage {
         /// Why it can't be read.
         error: Error,
     },
+    /// Entries of the directory whose bytes are not all in the file, of types whose stream, which
+    /// another entry decides, has its bytes. Exceptions don't count: each is told by itself.
+    Entries {
+        /// How many there are.
+        count: u64,
+    },
     /// Regions of the plain list of memory (MemoryListStream) whose bytes are not all in the file. The
     /// memory has none of them.
     Regions {
@@ -51,9 +58,18 @@ pub enum Damage {
     },
     /// Texts of a stream: none is where an entry names one by an RVA other than 0, or a surrogate of its
     /// UTF-16 lacks its partner. They are the text of the service pack (SystemInfoStream), the comment
-    /// of CommentStreamW, the names of handles, of their types and of threads, those of an assertion,
-    /// and the arguments of macOS's boot. Such a text is absent; a thread may have an earlier name.
+    /// of CommentStreamW, the names of handles, of their types and of threads, the texts of an
+    /// assertion, and the arguments of macOS's boot. Such a text is absent; a thread may have an earlier
+    /// name.
     Texts {
+        /// The number of the stream's type.
+        number: u32,
+        /// How many there are.
+        count: u64,
+    },
+    /// Records that a stream counts and that can't be read: those of macOS's crash information
+    /// (MozMacosCrashInfoStream) whose version is 0, and those beyond the 20 that it has room for.
+    Records {
         /// The number of the stream's type.
         number: u32,
         /// How many there are.
@@ -127,34 +143,38 @@ fn stream_damage(entry: &StreamEntry) -> Option<Damage>
     })
 }
 
-// Returns what is told by its number: regions outside the file, modules without addresses, and texts by
-// their streams, ascending by type.
+// Returns what is told by its number: entries and regions outside the file, modules without addresses,
+// and texts and records by their streams, ascending by type.
 pub(crate) fn counted_damage(
     alloc: Global,
-    dump: &Minidump<'_>,
     contents: &Contents<'_>,
+    directory: &CrashDirectory,
     comments: &Comments,
-) -> Result<[Option<Damage>; 8], Error>
-    ensures counted { IfOk result (λ counted. counted
-        ≡ counted_damage (dump_of dump.now) (contents_of contents.now) (comments_of comments.now)) }
+) -> Result<[Option<Damage>; 10], Error>
+    ensures counted { IfOk result (λ counted. counted ≡ counted_damage (contents_of contents.now)
+        (directory_of directory.now) (comments_of comments.now)) }
     ensures memory { IsOkUnless result Error.OutOfMemory }
 {
+    let entries = directory.entries_outside;
     let regions = contents.space.regions_outside;
     let modules = contents.space.modules.entries_without_addresses();
     let system = system_lacking(&contents.system.system);
-    let comment = comment_lacking(dump, comments);
+    let comment = u64::from(comments.lacks_partner);
     let handles = handles_lacking(&contents.process.handles);
     let threads = threads_lacking(&contents.threads.names);
     let assertion = assertion_lacking(alloc, &contents.messages.assertion)?;
+    let records = records_lacking(&contents.messages.mac_crash_info);
     let boot_args = boot_args_lacking(&contents.messages.mac_boot_args);
     Ok([
+        if_any(entries, Damage::Entries { count: entries }),
         if_any(regions, Damage::Regions { count: regions }),
         if_any(modules, Damage::Modules { count: modules }),
         texts_damage(MinidumpSystemInfo::number_of_type(), system),
-        texts_damage(11, comment),
+        texts_damage(MINIDUMP_STREAM_TYPE::CommentStreamW.number(), comment),
         texts_damage(MinidumpHandleDataStream::number_of_type(), handles),
         texts_damage(MinidumpThreadNames::number_of_type(), threads),
         texts_damage(MinidumpAssertion::number_of_type(), assertion),
+        records_damage(MinidumpMacCrashInfo::number_of_type(), records),
         texts_damage(MinidumpMacBootargs::number_of_type(), boot_args),
     ])
 }
@@ -171,6 +191,23 @@ fn texts_damage(number: u32, count: u64) -> Option<Damage>
     ensures { result ≡ texts_damage number count }
 {
     if_any(count, Damage::Texts { number, count })
+}
+
+// Returns the records of a stream that can't be read, if there are any.
+fn records_damage(number: u32, count: u64) -> Option<Damage>
+    ensures { result ≡ records_damage number count }
+{
+    if_any(count, Damage::Records { number, count })
+}
+
+// Returns how many records of macOS's crash information can't be read.
+fn records_lacking(found: &Result<MinidumpMacCrashInfo, Error>) -> u64
+    ensures { result ≡ records_lacking (map_ok mac_crash_info_stream.value found.now) }
+{
+    match found {
+        Ok(found) => found.unreadable_records(),
+        Err(_) => 0,
+    }
 }
 
 // Returns an exception that can't be read.

@@ -1,19 +1,18 @@
-ghost use Rattle.std.specs.Prelude.{◌≡◌, ◌^◌, ◌<◌, IfOk, Ok, if◌then◌else◌, is_none, length, map};
+ghost use Rattle.std.specs.Prelude.{◌≡◌, ◌^◌, ◌<◌, IfOk, Ok, length, map};
 ghost use Rattle.minidump.specs.Below.Contexts.Context.{map_ok};
-ghost use Rattle.minidump.specs.Below.Format.Header.{located};
 ghost use Rattle.minidump.specs.Dump.{dump_in};
 ghost use Rattle.minidump.specs.DumpValue.{dump_of};
 ghost use Rattle.minidump.specs.Promise.{exception_stream};
 ghost use Rattle.crash.specs.Contents.{contents_of};
 ghost use Rattle.crash.specs.Directory.{all_entries, directory_in, directory_of, entries_in};
 ghost use Rattle.crash.specs.Directory.{entry_in, error_of_number, error_of_type, last_error};
-ghost use Rattle.crash.specs.Directory.{outside_in, raw_error};
+ghost use Rattle.crash.specs.Directory.{is_lost, outside_in, raw_error};
 
 use crate::contents::Contents;
 use crate::space::error_of;
 use minidump::format::{MINIDUMP_DIRECTORY, MINIDUMP_STREAM_TYPE};
 use minidump::own_streams::Entries;
-use minidump::{Error, Minidump, MinidumpException, Source, Steps};
+use minidump::{Error, Minidump, MinidumpException, MinidumpStream, Source, Steps};
 use std::alloc::{AllocError, Global};
 
 /// What the header and the directory of a dump say.
@@ -24,8 +23,8 @@ pub struct CrashDirectory {
     pub written: u32,
     /// The streams, ascending by type.
     pub entries: Vec<StreamEntry>,
-    /// How many entries of the directory have bytes that are not all in the file: of all its
-    /// entries, also those that don't decide.
+    /// How many entries of the directory have bytes that are not all in the file, of types whose
+    /// stream, which another entry decides, has its bytes. Exceptions don't count: each is read.
     pub entries_outside: u64,
 }
 
@@ -165,7 +164,7 @@ fn raw_error(dump: &Minidump<'_>, number: u32) -> Option<Error>
     }
 }
 
-// Returns the number of entries whose bytes are not all in the file.
+// Returns the number of entries that are lost.
 fn outside_of(dump: &Minidump<'_>, file: &[u8]) -> u64
     requires { dump_in file.now ≡ Ok (dump_of dump.now) }
     ensures { result ≡ outside_in (dump_of dump.now) }
@@ -173,19 +172,23 @@ fn outside_of(dump: &Minidump<'_>, file: &[u8]) -> u64
     let mut count = 0;
     let entries = all_entries(dump, file);
     for index in 0..entries.len() {
-        count += is_outside(entries.read(index, &mut Steps::new()), file);
+        let entry = entries.read(index, &mut Steps::new());
+        count += u64::from(is_lost(dump, file, entry));
     }
     count
 }
 
-// Returns 1 for an entry whose bytes are not all in the file, and 0 for any other.
-fn is_outside(entry: MINIDUMP_DIRECTORY, file: &[u8]) -> u64
-    ensures { result ≡ (if is_none (located file.now entry.location) then 1 else 0) }
+// Tells whether an entry is lost: its bytes are not all in the file, but those of the stream of its
+// type are, which another entry decides. Each exception is read.
+fn is_lost(dump: &Minidump<'_>, file: &[u8], entry: MINIDUMP_DIRECTORY) -> bool
+    ensures { result ≡ is_lost file.now (dump_of dump.now) entry }
 {
     let bytes = entry
         .location
         .bytes_in(Source::new(file), &mut Steps::new());
-    u64::from(bytes.is_none())
+    bytes.is_none()
+        && raw_error(dump, entry.stream_type).is_none()
+        && entry.stream_type != MinidumpException::number_of_type()
 }
 
 // Returns all entries of the directory, which a file that is a dump holds.

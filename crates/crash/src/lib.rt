@@ -100,6 +100,5 @@ pub use records::{Access, Sender, SignalCode};
 pub use release::LsbRelease;
 pub use space::{SpaceStreams, regions_of};
 pub use stacks::StackRange;
-pub use texts::as_text;
 pub use threads::{CrashThread, CrashThreads};
 pub use unreadable_modules::{ModulePart, UnreadableModule};

@@ -12,6 +12,7 @@ ghost use Rattle.crash.specs.ProcessTexts.{bytes_of_kb, command_line_in, command
 ghost use Rattle.crash.specs.ProcessTexts.{comments_in, comments_of, cpu_text, size_of_text, spaced};
 ghost use Rattle.crash.specs.ProcessTexts.{status_number, status_size, value_in, value_of, wide_text};
 
+use minidump::format::MINIDUMP_STREAM_TYPE;
 use minidump::own_streams::text_before_nul;
 use minidump::strings::LinuxOsStr;
 use minidump::{
@@ -30,6 +31,8 @@ pub struct Comments {
     /// The text of the stream CommentStreamW before its first 0, `None` if its bytes can't be read,
     /// or a surrogate lacks its partner.
     pub wide: Option<String>,
+    /// Whether the bytes of CommentStreamW can be read, but a surrogate lacks its partner.
+    pub lacks_partner: bool,
 }
 
 // ---- Linux's files
@@ -153,8 +156,12 @@ pub(crate) fn comments_of(alloc: Global, dump: &Minidump<'_>) -> Result<Comments
     ensures { IfOk result (λ comments. comments_of comments ≡ comments_in (dump_of dump.now)) }
 {
     let narrow = narrow_comment(alloc, dump)?;
-    let wide = wide_comment(alloc, dump)?;
-    Ok(Comments { narrow, wide })
+    let (wide, lacks_partner) = wide_comment(alloc, dump)?;
+    Ok(Comments {
+        narrow,
+        wide,
+        lacks_partner,
+    })
 }
 
 // Makes the comment in bytes.
@@ -162,7 +169,7 @@ fn narrow_comment(alloc: Global, dump: &Minidump<'_>) -> Result<Option<String>, 
     ensures { IfOk result (λ text. option_map string_bytes text
         ≡ (comments_in (dump_of dump.now)).narrow) }
 {
-    match dump.get_raw_stream(10) {
+    match dump.get_raw_stream(MINIDUMP_STREAM_TYPE::CommentStreamA.number()) {
         Ok(bytes) => Ok(Some(comment_text(alloc, bytes)?)),
         Err(_) => Ok(None),
     }
@@ -192,14 +199,20 @@ fn first_nul(bytes: &[u8]) -> Option<usize>
     bytes.iter().position(|byte| *byte == 0)
 }
 
-// Makes the comment in UTF-16.
-fn wide_comment(alloc: Global, dump: &Minidump<'_>) -> Result<Option<String>, AllocError>
-    ensures { IfOk result (λ text. option_map string_bytes text
+// Makes the comment in UTF-16, and tells whether a surrogate of it lacks its partner.
+fn wide_comment(alloc: Global, dump: &Minidump<'_>) -> Result<(Option<String>, bool), AllocError>
+    ensures text { IfOk result (λ found. option_map string_bytes found.0
         ≡ (comments_in (dump_of dump.now)).wide) }
+    ensures lacks { IfOk result (λ found. found.1
+        ≡ (comments_in (dump_of dump.now)).lacks_partner) }
 {
-    match dump.get_raw_stream(11) {
-        Ok(bytes) => wide_text(alloc, bytes, dump.endian),
-        Err(_) => Ok(None),
+    match dump.get_raw_stream(MINIDUMP_STREAM_TYPE::CommentStreamW.number()) {
+        Ok(bytes) => {
+            let text = wide_text(alloc, bytes, dump.endian)?;
+            let lacks_partner = text.is_none();
+            Ok((text, lacks_partner))
+        }
+        Err(_) => Ok((None, false)),
     }
 }
 

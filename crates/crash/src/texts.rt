@@ -1,34 +1,21 @@
 //! How many texts of a stream can't be read.
-ghost use Rattle.std.specs.Prelude.{◌≡◌, ◌≤◌, IfOk, IsOkUnless, is_none, map, string_bytes};
+ghost use Rattle.std.specs.Prelude.{◌≡◌, ◌≤◌, IfOk, IsOkUnless, map, string_bytes};
 ghost use Rattle.std.specs.List.{sum_by};
 ghost use Rattle.std.specs.Option.{option_copied, option_map};
 ghost use Rattle.minidump.specs.Below.Contexts.Context.{map_ok};
 ghost use Rattle.minidump.specs.Below.Records.Handles.{handle_of, or_zero};
 ghost use Rattle.minidump.specs.Below.Records.NamedText.{lacks_text};
-ghost use Rattle.minidump.specs.DumpValue.{dump_of};
 ghost use Rattle.minidump.specs.Promise.{assertion_stream, handle_data_stream, mac_bootargs_stream};
 ghost use Rattle.minidump.specs.Promise.{system_info_stream, thread_names_stream};
-ghost use Rattle.crash.specs.ProcessTexts.{comments_of};
-ghost use Rattle.crash.specs.Texts.{assertion_lacking, boot_args_lacking, comment_lacking};
-ghost use Rattle.crash.specs.Texts.{handles_lacking, names_lacking, one_if, system_lacking};
-ghost use Rattle.crash.specs.Texts.{texts_lacking, threads_lacking};
+ghost use Rattle.crash.specs.Texts.{assertion_lacking, boot_args_lacking, handles_lacking};
+ghost use Rattle.crash.specs.Texts.{names_lacking, system_lacking, texts_lacking, threads_lacking};
 
-use crate::process_texts::Comments;
 use minidump::{
-    Error, Minidump, MinidumpAssertion, MinidumpHandleDataStream, MinidumpHandleDescriptor,
+    Error, MinidumpAssertion, MinidumpHandleDataStream, MinidumpHandleDescriptor,
     MinidumpMacBootargs, MinidumpSystemInfo, MinidumpThreadNames,
 };
+use minidump_bytes::as_text;
 use std::alloc::Global;
-
-/// Borrows a text that may be absent.
-pub fn as_text(text: &Option<String>) -> Option<&str>
-    ensures { option_copied result ≡ option_map string_bytes text.now }
-{
-    match text {
-        Some(text) => Some(text.as_str()),
-        None => None,
-    }
-}
 
 // ---- of each stream
 
@@ -37,17 +24,9 @@ pub(crate) fn system_lacking(system: &Result<MinidumpSystemInfo, Error>) -> u64
     ensures { result ≡ system_lacking (map_ok system_info_stream.value system.now) }
 {
     match system {
-        Ok(system) => one_if(lacks_text(system.raw.csd_version_rva as u64, system.csd_version())),
-        Err(_) => 0,
-    }
-}
-
-// Returns how many texts of the stream CommentStreamW can't be read: the comment.
-pub(crate) fn comment_lacking(dump: &Minidump<'_>, comments: &Comments) -> u64
-    ensures { result ≡ comment_lacking (dump_of dump.now) (comments_of comments.now) }
-{
-    match dump.get_raw_stream(11) {
-        Ok(_) => one_if(is_absent(as_text(&comments.wide))),
+        Ok(system) => {
+            u64::from(lacks_text(system.raw.csd_version_rva as u64, system.csd_version()))
+        }
         Err(_) => 0,
     }
 }
@@ -92,7 +71,7 @@ pub(crate) fn boot_args_lacking(arguments: &Result<MinidumpMacBootargs, Error>) 
     ensures { result ≡ boot_args_lacking (map_ok mac_bootargs_stream.value arguments.now) }
 {
     match arguments {
-        Ok(found) => one_if(lacks_text(found.raw.bootargs, as_text(&found.bootargs))),
+        Ok(found) => u64::from(lacks_text(found.raw.bootargs, as_text(&found.bootargs))),
         Err(_) => 0,
     }
 }
@@ -117,7 +96,7 @@ fn names_lacking(handle: &MinidumpHandleDescriptor) -> u64
 {
     let type_name = lacks_name(handle.raw.type_name_rva(), &handle.type_name);
     let object_name = lacks_name(handle.raw.object_name_rva(), &handle.object_name);
-    one_if(type_name) + one_if(object_name)
+    u64::from(type_name) + u64::from(object_name)
 }
 
 // Tells whether a name can't be read.
@@ -138,11 +117,7 @@ fn texts_lacking(alloc: Global, assertion: &MinidumpAssertion) -> Result<u64, Er
     let expression = assertion.expression(alloc)?;
     let function = assertion.function(alloc)?;
     let file = assertion.file(alloc)?;
-    Ok(
-        one_if(is_absent(as_text(&expression)))
-            + one_if(is_absent(as_text(&function)))
-            + one_if(is_absent(as_text(&file))),
-    )
+    Ok(u64::from(expression.is_none()) + u64::from(function.is_none()) + u64::from(file.is_none()))
 }
 
 // ---- of an entry
@@ -151,23 +126,5 @@ fn texts_lacking(alloc: Global, assertion: &MinidumpAssertion) -> Result<u64, Er
 fn lacks_text(rva: u64, text: Option<&str>) -> bool
     ensures { result ≡ lacks_text rva (option_copied text.entry) }
 {
-    is_absent(text) && rva != 0
-}
-
-// Tells whether a text is absent.
-fn is_absent(text: Option<&str>) -> bool
-    ensures { result ≡ is_none (option_copied text.entry) }
-{
-    match text {
-        Some(_) => false,
-        None => true,
-    }
-}
-
-// Returns 1 where a test holds, else 0.
-fn one_if(holds: bool) -> u64
-    ensures count { result ≡ one_if holds }
-    ensures few { result ≤ 1 }
-{
-    if holds { 1 } else { 0 }
+    text.is_none() && rva != 0
 }

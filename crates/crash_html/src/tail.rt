@@ -218,9 +218,11 @@ function damageWords(damage) {
   const error = part(damage, "error");
   switch (part(damage, "what")) {
     case "stream": return joined([streamName(part(damage, "number")), error], ": ");
+    case "entries": return "entries of the directory, outside the file: " + counted(part(damage, "count"));
     case "regions": return "regions of the plain list of memory, outside the file: " + counted(part(damage, "count"));
     case "modules": return "modules without addresses: " + counted(part(damage, "count"));
     case "texts": return "texts of " + streamName(part(damage, "number")) + ": " + counted(part(damage, "count"));
+    case "records": return "records of " + streamName(part(damage, "number")) + ": " + counted(part(damage, "count"));
     case "exception": return joined(["an exception before the last", error], ": ");
     case "exception_context": return joined(["the context of the exception on thread " + thread + ", outside the file", error], ": ");
     case "thread_context": return joined(["the context of thread " + thread + ", outside the file", error], ": ");
@@ -320,13 +322,11 @@ function addTitle() {
 function addDamage() {
   const damage = list(part(minidump, "damage"));
   const unreadable = list(part(minidump, "unreadable_modules"));
-  const outside = part(minidump, "entries_outside");
-  if (damage.length === 0 && unreadable.length === 0 && !outside) return;
+  if (damage.length === 0 && unreadable.length === 0) return;
   const place = section("damage", "Can\u2019t be read", "damage");
   const lines = element("ul");
   place.appendChild(lines);
   const words = [...damage.map(damageWords), ...unreadable.map(unreadableWords)];
-  if (outside) words.unshift("entries of the directory that lie outside the file: " + counted(outside));
   some(place, words, (one) => lines.appendChild(element("li", one)));
 }
 
@@ -598,7 +598,7 @@ const KNOWN = {
     + "mac_boot_args handles soft_errors linux_memory_map_count proc_limits minidump",
   system_info: "os os_ver cpu_arch cpu_info cpu_count cpu_microcode_version",
   crash_info: "type address crashing_thread assertion",
-  minidump: "written uptime status streams entries_outside memory damage address exceptions exception registers_of assertion crashpad signature "
+  minidump: "written uptime status streams memory damage address exceptions exception registers_of assertion crashpad signature "
     + "command_line comment wide_comment point environment parent_process_id resident_size handle_kinds unreadable_modules",
   "minidump.point": "instruction registers code words flags set_flags",
   "minidump.address": "address module module_offset null_offset is_canonical unloaded_module stack_of below_stack memory",

@@ -15,11 +15,12 @@ use Rattle.minidump.specs.Below.Records.Crashpad.{Crashpad, Module}
 use Rattle.minidump.specs.Below.Records.CrashpadText.{annotation_text}
 use Rattle.minidump.specs.Below.Records.Handles.{Handle}
 use Rattle.minidump.specs.Below.Records.Pairs.{pairs_of}
+use Rattle.minidump.specs.Below.Records.MacCrashInfo.{MacRecords}
 use Rattle.minidump.specs.Below.Records.Record.{MacRecord}
 use Rattle.crash.specs.declared.addresses.AddressFacts.{AddressFacts}
 use Rattle.crash.specs.declared.addresses.AddressMemory.{AddressMemory}
 use Rattle.crash.specs.declared.damage.Damage.{Damage}
-use Rattle.crash.specs.declared.damage.Damage.TheVariants.{Exception, ExceptionContext, Modules, Regions, Stack, Stream, Texts, ThreadContext}
+use Rattle.crash.specs.declared.damage.Damage.TheVariants.{Entries, Exception, ExceptionContext, Modules, Records, Regions, Stack, Stream, Texts, ThreadContext}
 use Rattle.crash.specs.declared.directory.StreamEntry.{StreamEntry}
 use Rattle.crash.specs.declared.contexts.ShortContext.{ShortContext}
 use Rattle.crash.specs.declared.point.StackWord.{StackWord}
@@ -146,9 +147,9 @@ mac_record_depth : (r : MacRecord) → depth (mac_record_json r) ≤ 1
 unfolding mac_record_json
 mac_record_depth r = omega (arith, flat)
 
-mac_depth : (rs : List MacRecord) → depth (mac_crash_json rs) ≤ 3
+mac_depth : (all : MacRecords) → depth (mac_crash_json all) ≤ 3
 unfolding mac_crash_json
-mac_depth rs = omega (arith, array_within mac_record_json 1 mac_record_depth)
+mac_depth all = omega (arith, array_within mac_record_json 1 mac_record_depth)
 
 assertion_depth : (a : MINIDUMP_ASSERTION_INFO) → depth (assertion_json a) ≤ 1
 unfolding assertion_object
@@ -220,9 +221,11 @@ region_depth r = omega arith
 damage_depth : (d : Damage) → depth (damage_json d) ≤ 1
 unfolding damage_object
 damage_depth (Stream number error) = omega arith
-damage_depth (Regions regions) = omega arith
-damage_depth (Modules entries) = omega arith
-damage_depth (Texts number entries) = omega arith
+damage_depth (Entries n) = omega arith
+damage_depth (Regions n) = omega arith
+damage_depth (Modules n) = omega arith
+damage_depth (Texts number n) = omega arith
+damage_depth (Records number n) = omega arith
 damage_depth (Exception error) = omega arith
 damage_depth (ExceptionContext id) = omega arith
 damage_depth (ThreadContext id) = omega arith

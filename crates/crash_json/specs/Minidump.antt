@@ -8,8 +8,9 @@ use Rattle.minidump.specs.Below.Format.Error.{name_of_error}
 use Rattle.minidump.specs.Below.Format.StreamType.{stream_type_of, type_name}
 use Rattle.minidump.specs.Below.MemoryLists.Unified.{UnifiedRegion, unified_regions}
 use Rattle.crash.specs.declared.damage.Damage.{Damage}
-use Rattle.crash.specs.declared.damage.Damage.TheVariants.{Exception, ExceptionContext, Modules, Regions}
-use Rattle.crash.specs.declared.damage.Damage.TheVariants.{Stack, Stream, Texts, ThreadContext}
+use Rattle.crash.specs.declared.damage.Damage.TheVariants.{Entries, Exception, ExceptionContext, Modules}
+use Rattle.crash.specs.declared.damage.Damage.TheVariants.{Records, Regions, Stack, Stream, Texts}
+use Rattle.crash.specs.declared.damage.Damage.TheVariants.{ThreadContext}
 use Rattle.crash.specs.declared.directory.StreamEntry.{StreamEntry}
 use Rattle.crash.specs.Crash.{CrashValue, status_of}
 use Rattle.crash_json.specs.Tree.{array_of, count, hex_string, object_of, or_null}
@@ -59,10 +60,11 @@ damage_object what number entries thread error = object_of (
 abbrev pub damage_json : Damage → Json
 damage_json (Stream number error) =
     damage_object (codes "stream") (Some number) None None (Some (name_of_error error))
-damage_json (Regions entries) = damage_object (codes "regions") None (Some entries) None None
-damage_json (Modules entries) = damage_object (codes "modules") None (Some entries) None None
-damage_json (Texts number entries) =
-    damage_object (codes "texts") (Some number) (Some entries) None None
+damage_json (Entries n) = damage_object (codes "entries") None (Some n) None None
+damage_json (Regions n) = damage_object (codes "regions") None (Some n) None None
+damage_json (Modules n) = damage_object (codes "modules") None (Some n) None None
+damage_json (Texts number n) = damage_object (codes "texts") (Some number) (Some n) None None
+damage_json (Records number n) = damage_object (codes "records") (Some number) (Some n) None None
 damage_json (Exception error) =
     damage_object (codes "exception") None None None (Some (name_of_error error))
 damage_json (ExceptionContext id) =
@@ -94,7 +96,6 @@ unfoldable pub file_members : CrashValue → List (List ℕ × Json)
 file_members c =
     (codes "status", count (status_of (Ok c)))
     ∷ (codes "streams", array_of stream_json c.directory.entries)
-    ∷ (codes "entries_outside", count c.directory.entries_outside)
     ∷ (codes "memory", array_of region_json (unified_regions c.contents.space.memory))
     ∷ (codes "damage", array_of damage_json c.damage)
     ∷ (codes "unreadable_modules", array_of unreadable_json c.modules.unreadable)

@@ -6,6 +6,7 @@ use Rattle.minidump.specs.declared.format.MINIDUMP_ASSERTION_INFO.{MINIDUMP_ASSE
 use Rattle.minidump.specs.Below.Bytes.Text16.{text_before_nul}
 use Rattle.minidump.specs.Below.Records.Descriptor.{handle}
 use Rattle.minidump.specs.Below.Records.Handles.{Handle}
+use Rattle.minidump.specs.Below.Records.MacCrashInfo.{MacRecords}
 use Rattle.minidump.specs.Below.Records.Record as mac
 use Rattle.minidump.specs.Below.Records.Record.{MacRecord, text_of}
 use Rattle.crash.specs.HandleKinds.{KindValue}
@@ -46,10 +47,10 @@ mac_record_json r = object_of (
     ∷ [])
 
 -- the crash information of macOS
-unfoldable pub mac_crash_json : List MacRecord → Json
-mac_crash_json records = object_of (
-    (codes "num_records", count (length records))
-    ∷ (codes "records", array_of mac_record_json records)
+unfoldable pub mac_crash_json : MacRecords → Json
+mac_crash_json all = object_of (
+    (codes "num_records", count (length all.records))
+    ∷ (codes "records", array_of mac_record_json all.records)
     ∷ [])
 
 -- ---- an assertion

@@ -15,11 +15,12 @@ use crate::frames::{index_of, offset_of};
 use crate::tree::{Members, Put, Scalar, ToJson, put_array, put_or_null};
 use crash::{
     Access, AddressFacts, AddressMemory, ContextProblem, Crash, CrashCause, CrashException,
-    RegionState, Sender, as_text,
+    RegionState, Sender,
 };
 use json::Writer;
 use minidump::own_streams::text_before_nul;
 use minidump::{Error, MinidumpAssertion};
+use minidump_bytes::as_text;
 use std::alloc::{AllocError, Global};
 
 /// Puts the crash, by the exception that counts.

@@ -19,10 +19,11 @@ use crate::report::Report;
 use crate::signature::signature_in;
 use crate::threads::registers_of;
 use crate::tree::{Members, Put, Scalar, ToJson, put_array, put_found, put_or_null};
-use crash::{Crash, Damage, StreamEntry, as_text, regions_of};
+use crash::{Crash, Damage, StreamEntry, regions_of};
 use json::Writer;
 use minidump::format::MINIDUMP_STREAM_TYPE;
 use minidump::{Error, UnifiedMemory, UnifiedMemoryList};
+use minidump_bytes::as_text;
 use std::alloc::Global;
 
 /// Puts what a minidump says that the schema has no member for, with the environment if it is asked
@@ -78,11 +79,9 @@ fn put_file(out: &mut Writer, alloc: Global, crash: &Crash<'_>) -> Put
     ensures { Adds result out.old out.new (file_members (crash_of crash.now)) }
 {
     let status = Scalar::Number(Some(status_of(crash)));
-    let outside = Scalar::Number(Some(crash.directory.entries_outside));
     Members(&[
         ("status", Member::Scalar(status)),
         ("streams", Member::Streams(crash)),
-        ("entries_outside", Member::Scalar(outside)),
         ("memory", Member::Memory(crash)),
         ("damage", Member::Damage(crash)),
         ("unreadable_modules", Member::Unreadable(crash)),
@@ -243,6 +242,9 @@ impl ToJson for Damage {
             Damage::Stream { number, error } => {
                 put_damage(out, alloc, "stream", Some(number), None, None, Some(error))
             }
+            Damage::Entries { count } => {
+                put_damage(out, alloc, "entries", None, Some(count), None, None)
+            }
             Damage::Regions { count } => {
                 put_damage(out, alloc, "regions", None, Some(count), None, None)
             }
@@ -252,6 +254,15 @@ impl ToJson for Damage {
             Damage::Texts { number, count } => {
                 put_damage(out, alloc, "texts", Some(number), Some(count), None, None)
             }
+            Damage::Records { number, count } => put_damage(
+                out,
+                alloc,
+                "records",
+                Some(number),
+                Some(count),
+                None,
+                None,
+            ),
             Damage::Exception { error } => {
                 put_damage(out, alloc, "exception", None, None, None, Some(error))
             }

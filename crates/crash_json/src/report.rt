@@ -19,10 +19,11 @@ use crate::threads::{EachThread, put_crashing};
 use crate::tree::{
     Members, Put, Scalar, ToJson, put_array, put_found, put_numbered_array, put_or_null,
 };
-use crash::{Crash, CrashThread, as_text};
+use crash::{Crash, CrashThread};
 use crash_symbols::Symbolized;
 use json::Writer;
 use minidump::{Error, MinidumpMacBootargs, MinidumpSoftErrors};
+use minidump_bytes::as_text;
 use std::alloc::Global;
 
 /// A crash, with the path of its file if it has one, how much is written, and the symbols where they

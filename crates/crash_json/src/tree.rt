@@ -10,9 +10,8 @@ ghost use Rattle.json.specs.Json.{Json, string};
 ghost use Rattle.crash_json.specs.Tree.{Adds, Puts, array_of, hex_text, member_of};
 ghost use Rattle.crash_json.specs.Tree.{numbered_array_of, object_of, or_null};
 
-use crash::as_text;
 use json::Writer;
-use minidump_bytes::{Piece, format_pieces};
+use minidump_bytes::{Piece, as_text, format_pieces};
 use minidump_format::Error;
 use std::alloc::{AllocError, Global};
 

@@ -1,7 +1,7 @@
 -- The summary of a crash: which thread, where, why, in which module and on which stack, by what the
 -- streams of a minidump are.
 use Rattle.std.specs.Prelude.{ℕ, List, [], Option, Some, Result, Ok, string_bytes, unwrap_or}
-use Rattle.std.specs.Option.{option_and_then, option_map, option_map_or, option_or}
+use Rattle.std.specs.Option.{option_and_then, option_map, option_or}
 use Rattle.std.specs.Result.{result_ok}
 use Rattle.minidump.specs.declared.Error.{Error}
 use Rattle.minidump.specs.declared.MinidumpRawContext.{MinidumpRawContext}
@@ -17,7 +17,8 @@ use Rattle.minidump.specs.Crash.{last_with}
 use Rattle.minidump.specs.Dump.{Dump, dump_in, dump_system, stream_of}
 use Rattle.minidump.specs.Exception.{Exception, crash_address}
 use Rattle.minidump.specs.Memory.{memories_of_dump}
-use Rattle.minidump.specs.Promise.{exception_stream, module_list_stream, thread_list_stream}
+use Rattle.minidump.specs.Modules.{modules_of_dump}
+use Rattle.minidump.specs.Promise.{exception_stream, thread_list_stream}
 use Rattle.minidump.specs.Thread.{Thread, instruction_of, known_context}
 use Rattle.minidump.specs.ThreadText.{stack_of}
 use Rattle.crash_summary.specs.declared.CrashSummary.{CrashSummary}
@@ -58,7 +59,7 @@ abbrev pub threads_in : Dump → List Thread
 threads_in d = unwrap_or (result_ok (stream_of thread_list_stream d)) []
 
 abbrev pub modules_in : Dump → List ModuleValue
-modules_in d = option_map_or (λ listed. listed.modules) (result_ok (stream_of module_list_stream d)) []
+modules_in d = unwrap_or (modules_of_dump d) []
 
 abbrev pub memory_in : Dump → UnifiedRegions
 memory_in d = unwrap_or (memories_of_dump d) (Memory [])

@@ -1,6 +1,5 @@
 -- The lines of what is there and can't be read.
-use Rattle.std.specs.Prelude.{ℕ, ◌++◌, List, [], ◌∷◌, map, nat_lt, Option, Some, None, codes}
-use Rattle.std.specs.Prelude.{if◌then◌else◌}
+use Rattle.std.specs.Prelude.{ℕ, ◌++◌, List, [], ◌∷◌, map, Option, Some, None, codes}
 use Rattle.std.specs.Fmt.{decimal}
 use Rattle.std.specs.List.{concat}
 use Rattle.minidump.specs.declared.format.MINIDUMP_STREAM_TYPE.{MINIDUMP_STREAM_TYPE}
@@ -8,8 +7,9 @@ use Rattle.minidump.specs.Below.Bytes.Piece.{hex}
 use Rattle.minidump.specs.Below.Format.Error.{name_of_error}
 use Rattle.minidump.specs.Below.Format.StreamType.{stream_type_of, type_name}
 use Rattle.crash.specs.declared.damage.Damage.{Damage}
-use Rattle.crash.specs.declared.damage.Damage.TheVariants.{Exception, ExceptionContext, Modules, Regions}
-use Rattle.crash.specs.declared.damage.Damage.TheVariants.{Stack, Stream, Texts, ThreadContext}
+use Rattle.crash.specs.declared.damage.Damage.TheVariants.{Entries, Exception, ExceptionContext, Modules}
+use Rattle.crash.specs.declared.damage.Damage.TheVariants.{Records, Regions, Stack, Stream, Texts}
+use Rattle.crash.specs.declared.damage.Damage.TheVariants.{ThreadContext}
 use Rattle.crash.specs.declared.unreadable_modules.ModulePart.{ModulePart}
 use Rattle.crash.specs.declared.unreadable_modules.ModulePart.TheVariants.{CodeView, Name}
 use Rattle.crash.specs.declared.unreadable_modules.UnreadableModule.{UnreadableModule}
@@ -36,12 +36,16 @@ count_row words counted count = concat (words ∷ counted ∷ codes ": " ∷ dec
 -- the line of something that can't be read, or of bytes that are not in the file
 abbrev pub damage_row : Damage → List ℕ
 damage_row (Stream number error) = stream_row (stream_text number) (name_of_error error)
+damage_row (Entries count) =
+    count_row (codes "outside the file: ") (codes "entries of the directory") count
 damage_row (Regions count) =
     count_row (codes "outside the file: ") (codes "regions of the plain list of memory") count
 damage_row (Modules count) =
     count_row (codes "can't be read: ") (codes "modules without addresses") count
 damage_row (Texts number count) =
     count_row (codes "can't be read: texts of ") (stream_text number) count
+damage_row (Records number count) =
+    count_row (codes "can't be read: records of ") (stream_text number) count
 damage_row (Exception error) =
     stream_row (codes "an exception before the last") (name_of_error error)
 damage_row (ExceptionContext thread) =
@@ -60,12 +64,6 @@ unfoldable pub unreadable_line : UnreadableModule → List ℕ
 unreadable_line m = concat (codes "can't be read: " ∷ part_words m.part ∷ decimal m.index
     ∷ codes " at " ∷ hex m.base ∷ codes ", " ∷ hex m.size ∷ codes " bytes" ∷ [])
 
--- the line of the number of entries whose bytes are not all in the file, where there are any
-unfoldable pub entries_lines : ℕ → List (List ℕ)
-entries_lines count = if nat_lt 0 count then concat (
-    codes "entries of the directory outside the file: " ∷ decimal count ∷ []) ∷ [] else []
-
 -- all of it
 abbrev pub damage_lines : CrashValue → List (List ℕ)
-damage_lines c = map damage_row c.damage ++ (map unreadable_line c.modules.unreadable
-    ++ entries_lines c.directory.entries_outside)
+damage_lines c = map damage_row c.damage ++ map unreadable_line c.modules.unreadable

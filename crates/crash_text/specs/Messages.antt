@@ -110,5 +110,6 @@ record_lines r = mac_texts_lines r ++ mac_numbers_lines r
 -- all that the process said
 abbrev pub messages_lines : MessageStreamValues → List (List ℕ)
 messages_lines m = if_ok (λ a. assertion_line a ∷ []) m.assertion
-    ++ (if_ok crashpad_lines m.crashpad ++ (if_ok (flat_map record_lines) m.mac_crash_info
+    ++ (if_ok crashpad_lines m.crashpad
+    ++ (if_ok (λ all. flat_map record_lines all.records) m.mac_crash_info
     ++ if_ok (λ t. text_row (codes "soft errors ") t ∷ []) m.soft_errors))

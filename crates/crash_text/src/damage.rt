@@ -1,7 +1,7 @@
 ghost use Rattle.std.specs.Prelude.{◌≡◌, [], ◌∷◌, IfOk, string_bytes};
 ghost use Rattle.crash.specs.Crash.{crash_of};
-ghost use Rattle.crash_text.specs.Damage.{count_row, damage_lines, entries_lines, part_words};
-ghost use Rattle.crash_text.specs.Damage.{stream_row, stream_text};
+ghost use Rattle.crash_text.specs.Damage.{count_row, damage_lines, part_words, stream_row};
+ghost use Rattle.crash_text.specs.Damage.{stream_text};
 ghost use Rattle.crash_text.specs.Lines.{Adds};
 
 use crate::lines::{Added, Line, push_each, push_line};
@@ -18,8 +18,7 @@ pub(crate) fn push_damage(out: &mut String, crash: &Crash<'_>) -> Added
     ensures { Adds out.old out.new (damage_lines (crash_of crash.now)) result }
 {
     push_each(out, crash.damage.as_slice())?;
-    push_each(out, crash.modules.unreadable.as_slice())?;
-    push_entries(out, crash.directory.entries_outside)
+    push_each(out, crash.modules.unreadable.as_slice())
 }
 
 impl Line for Damage {
@@ -38,6 +37,9 @@ impl Line for Damage {
                 let stream = stream_text(*out.allocator(), number)?;
                 push_stream(out, stream.as_str(), error.name())
             }
+            Damage::Entries { count } => {
+                push_number(out, "outside the file: ", "entries of the directory", count)
+            }
             Damage::Regions { count } => push_number(
                 out,
                 "outside the file: ",
@@ -50,6 +52,10 @@ impl Line for Damage {
             Damage::Texts { number, count } => {
                 let stream = stream_text(*out.allocator(), number)?;
                 push_number(out, "can't be read: texts of ", stream.as_str(), count)
+            }
+            Damage::Records { number, count } => {
+                let stream = stream_text(*out.allocator(), number)?;
+                push_number(out, "can't be read: records of ", stream.as_str(), count)
             }
             Damage::Exception { error } => push_stream(
                 out,
@@ -125,18 +131,5 @@ pub(crate) fn stream_text(alloc: Global, number: u32) -> Result<String, AllocErr
     match MINIDUMP_STREAM_TYPE::from_u32(number) {
         Some(known_type) => String::from_str(alloc, known_type.name()),
         None => format_pieces(alloc, &[Words("stream "), Hex(number as u64)]),
-    }
-}
-
-// Appends how many entries have bytes that are not all in the file, if there are any.
-#[rattlefmt::skip]
-#[tactic(auto, unfolding(crate::specs::Damage::entries_lines))]
-fn push_entries(out: &mut String, count: u64) -> Added
-    ensures { Adds out.old out.new (entries_lines count) result }
-{
-    if count > 0 {
-        push_line(out, &[Words("entries of the directory outside the file: "), Decimal(count)])
-    } else {
-        Ok(())
     }
 }

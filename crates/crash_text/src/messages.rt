@@ -231,7 +231,8 @@ fn push_annotation<'t>(out: &mut String, name: &'t str, text: &'t str) -> Added
 // Appends the texts and the numbers of each record of macOS's crash information.
 fn push_mac(out: &mut String, found: &Result<MinidumpMacCrashInfo, Error>) -> Added
     ensures { Adds out.old out.new
-        (if_ok (flat_map record_lines) (map_ok mac_crash_info_stream.value found.now)) result }
+        (if_ok (λ all. flat_map record_lines all.records)
+        (map_ok mac_crash_info_stream.value found.now)) result }
 {
     match found {
         Ok(info) => {

@@ -22,7 +22,8 @@ ghost use Rattle.minidump.specs.Below.Modules.UnloadedModule.{unloaded_of};
 ghost use Rattle.minidump.specs.Promise.{exception_stream, linux_cpu_info_stream};
 ghost use Rattle.minidump.specs.Promise.{linux_environ_stream, linux_lsb_release_stream};
 ghost use Rattle.minidump.specs.Promise.{linux_maps_stream, linux_proc_limits_stream};
-ghost use Rattle.minidump.specs.Promise.{linux_proc_status_stream, memory64_list_stream};
+ghost use Rattle.minidump.specs.Promise.{linux_proc_status_stream, mac_crash_info_stream};
+ghost use Rattle.minidump.specs.Promise.{memory64_list_stream};
 ghost use Rattle.minidump.specs.Promise.{memory_info_list_stream, memory_list_stream};
 ghost use Rattle.minidump.specs.Promise.{module_list_stream, soft_errors_stream};
 ghost use Rattle.minidump.specs.Promise.{system_info_stream, thread_list_stream};
@@ -35,9 +36,9 @@ use minidump::system_info::Os;
 use minidump::{
     Endian, MinidumpException, MinidumpLinuxCpuInfo, MinidumpLinuxEnviron, MinidumpLinuxLsbRelease,
     MinidumpLinuxMapInfo, MinidumpLinuxMaps, MinidumpLinuxProcLimits, MinidumpLinuxProcStatus,
-    MinidumpMemory, MinidumpMemory64, MinidumpMemory64List, MinidumpMemoryInfo,
-    MinidumpMemoryInfoList, MinidumpMemoryList, MinidumpModule, MinidumpModuleList,
-    MinidumpSoftErrors, MinidumpSystemInfo, MinidumpThread, MinidumpThreadList,
+    MinidumpMacCrashInfo, MinidumpMemory, MinidumpMemory64, MinidumpMemory64List,
+    MinidumpMemoryInfo, MinidumpMemoryInfoList, MinidumpMemoryList, MinidumpModule,
+    MinidumpModuleList, MinidumpSoftErrors, MinidumpSystemInfo, MinidumpThread, MinidumpThreadList,
     MinidumpThreadNames, MinidumpUnloadedModule, MinidumpUnloadedModuleList,
 };
 use std::slice;
@@ -205,6 +206,13 @@ pub fn unreadable_names(names: &MinidumpThreadNames) -> u64
     ensures { result ≡ (thread_names_stream.value names.now).unreadable }
 {
     names.unreadable_names()
+}
+
+/// Returns how many records macOS's crash information counts that can't be read.
+pub fn unreadable_records(info: &MinidumpMacCrashInfo) -> u64
+    ensures { result ≡ (mac_crash_info_stream.value info.now).unreadable }
+{
+    info.unreadable_records()
 }
 
 /// Returns the text of the soft errors.

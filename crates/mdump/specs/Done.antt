@@ -19,7 +19,8 @@ use Rattle.minidump.specs.Below.Modules.Module.{ModuleValue, range_of_module}
 use Rattle.minidump.specs.Dump.{Dump, stream_of}
 use Rattle.minidump.specs.File.{IsFileDump, IsPathError}
 use Rattle.minidump.specs.Memory.{memories_of_dump}
-use Rattle.minidump.specs.Promise.{linux_maps_stream, memory_info_list_stream, module_list_stream}
+use Rattle.minidump.specs.Modules.{modules_of_dump}
+use Rattle.minidump.specs.Promise.{linux_maps_stream, memory_info_list_stream}
 use Rattle.minidump.specs.Report.{report_text}
 use Rattle.minidump.specs.Text.{dump_text}
 use Rattle.mdump.specs.declared.command.Command.{Command}
@@ -66,11 +67,6 @@ abbrev pub IsMemoryLine : Dump → ℕ → List ℕ → Type 0
 IsMemoryLine dump address text =
     (found : Option UnifiedRegion) × IsLookedUpIn range_of_region
     (option_map unified_regions (memories_of_dump dump)) address found × (text ≡ memory_line found)
-
--- the modules of a dump, where its list of modules can be read; unloaded modules play no part
-abbrev pub modules_of_dump : Dump → Option (List ModuleValue)
-modules_of_dump dump =
-    option_map (λ listed. listed.modules) (result_ok (stream_of module_list_stream dump))
 
 -- the line of the module that contains an address
 abbrev pub IsModuleLine : Dump → ℕ → List ℕ → Type 0

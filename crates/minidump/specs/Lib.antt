@@ -10,6 +10,7 @@ pub mod Reader
 pub mod File
 pub mod Promise
 pub mod Memory
+pub mod Modules
 pub mod Thread
 pub mod ThreadText
 pub mod Exception

@@ -11,7 +11,7 @@ use Rattle.minidump.specs.Promise.{memory_list_stream, memory64_list_stream}
 
 -- the 64-bit list; the memory list where that one is missing or malformed; none where both are. A
 -- 64-bit list that was read hides the memory list also where it does not have an address
-abbrev first_found : Result (List (MemoryRegion MINIDUMP_MEMORY_DESCRIPTOR64)) Error
+abbrev pub first_found : Result (List (MemoryRegion MINIDUMP_MEMORY_DESCRIPTOR64)) Error
     → Result PlainMemory Error → Option UnifiedRegions
 first_found (Ok long) plain = Some (Memory64 long)
 first_found (Err _) (Ok plain) = Some (plain_regions plain)

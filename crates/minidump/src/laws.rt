@@ -289,7 +289,7 @@ pub fn values_are_those_of_the_entries<T>()
     ensures handles { (list : MinidumpHandleDataStream) (f : Handle → T)
         → map f (handle_data_stream.value list) ≡ map (λ h. f (handle_of h)) list.handles.items }
     ensures mac_records { (list : MinidumpMacCrashInfo) (f : MacRecord → T)
-        → map f (mac_crash_info_stream.value list) ≡ map (λ r. f (mac_record_of r)) list.raw.items }
+        → map f (mac_crash_info_stream.value list).records ≡ map (λ r. f (mac_record_of r)) list.raw.items }
     ensures maps { (list : MinidumpLinuxMaps) (f : MapRegion → T)
         → map f (linux_maps_stream.value list) ≡ map (λ m. f (map_info_of m)) (maps_of list) }
     ensures memory { (list : MinidumpMemoryListBase MINIDUMP_MEMORY_DESCRIPTOR)

@@ -179,7 +179,7 @@ enum minidump_end {
     MINIDUMP_END_NO_MEMORY = 1,           /* the dump has no memory of the stack */
     MINIDUMP_END_UNKNOWN_WIDTH = 2,       /* the width of an address isn't known */
     MINIDUMP_END_NO_FRAME_POINTER = 3,    /* the frame pointer isn't known */
-    MINIDUMP_END_ZERO_FRAME_POINTER = 4,  /* it is 0, as a thread's first function finds it */
+    MINIDUMP_END_ZERO_FRAME_POINTER = 4,  /* without Swift's mark it is 0, as a thread's first function finds it */
     MINIDUMP_END_BELOW_STACK_POINTER = 5, /* it lies below the stack pointer */
     MINIDUMP_END_NO_RECORD = 6,           /* the stack doesn't hold both words at it, or they end at 2^64 or beyond, on 32 bits
                                            * at 2^32 or beyond */
@@ -247,9 +247,11 @@ struct minidump_crash {
     struct minidump_facts facts;         /* of the address that the crash is about */
     uint64_t uptime;     /* for how many seconds the process had run when the dump was written */
     size_t thread_index; /* of the thread that crashed, in the table of threads */
-    size_t damage_count; /* how many streams, exceptions, contexts and stacks are there and can't be read, and one
-                          * more for each of these: regions of memory outside the file, modules without addresses, and
-                          * each stream with texts that can't be read; minidump_crash_json names them */
+    size_t damage_count; /* how many streams, exceptions, contexts and stacks are there and can't be read; one more for
+                          * each of these kinds that there is: entries of the directory outside the file beside a stream
+                          * that is in it, regions of memory outside the file, and modules without addresses; and one
+                          * for each stream with texts, or with records, that can't be read. minidump_crash_json names
+                          * them */
     size_t register_size; /* how many bytes a register has */
     size_t frame_count;   /* the sizes of the whole tables, and of all texts */
     size_t register_count;

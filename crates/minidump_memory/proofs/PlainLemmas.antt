@@ -61,7 +61,3 @@ no_or_one false = omega arith
 
 pub one_span : (d : MINIDUMP_MEMORY_DESCRIPTOR) → spans_read d ≤ 1
 one_span d = no_or_one (d.memory.rva == 0 || d.memory.data_size == 0)
-
-pub at_most_one : (b : Bool) → (if b then 1 else 0) ≤ 1
-at_most_one true = omega arith
-at_most_one false = omega arith

@@ -1,13 +1,13 @@
 -- The modules of the entries that have addresses, and the unloaded modules.
-use Rattle.std.proofs.Common.{◌≡◌, ◌∙◌, ◌+◌, ◌<◌, [], ◌∷◌, Bool, true, false, Err, ap, arith, filter, length, map, refl, suc, List, ℕ, Ok, Option, Result}
-use Rattle.std.proofs.lemmas.List.Sums.{length-filter, sum_by-cons}
-use Rattle.std.specs.Prelude.{cond, count_by, not}
+use Rattle.std.proofs.Common.{◌≡◌, ◌+◌, ◌<◌, [], ◌∷◌, arith, filter, length, map, List, ℕ, Ok, Option, Result}
+use Rattle.std.proofs.lemmas.List.Sums.{length-filter}
+use Rattle.std.specs.Prelude.{count_by, not}
 use Rattle.minidump_format.specs.declared.error.Error.{Error}
 use Rattle.minidump_bytes.specs.declared.endian.Endian.{Endian}
 use Rattle.minidump_format.specs.declared.format.module.MINIDUMP_MODULE.{MINIDUMP_MODULE}
 use Rattle.minidump_system.specs.declared.os.Os.{Os}
-use Rattle.minidump_system.specs.Reads.{all_kept, all_ok, and_then, read_each, read_if}
-use Rattle.minidump_system.proofs.KeptLemmas.{kept_each, kept_if}
+use Rattle.minidump_system.specs.Reads.{all_kept, all_ok, read_each, read_if}
+use Rattle.minidump_system.proofs.KeptLemmas.{kept_each, kept_if, one_for_each, split_by}
 use Rattle.minidump_modules.specs.Module.{ModuleValue, has_range, read_module}
 use Rattle.minidump_format.specs.declared.format.module.MINIDUMP_UNLOADED_MODULE.{MINIDUMP_UNLOADED_MODULE}
 use Rattle.minidump_modules.specs.UnloadedModule.{unloaded_with_range}
@@ -28,31 +28,6 @@ unfolding all_kept
 some_kept read [] view [] same some = some
 some_kept read [] view (m ∷ ms) same some = absurd (let no : ⊥ = cc in no)
 some_kept read (r ∷ rs) view ms same some = omega arith
-
--- where all are read, there is one value for each
-one_more : {V : Type 0} (n : ℕ) (r : Result V Error) (W : Result (List V) Error) (vs : List V) → ((ws : List V) → W ≡ Ok ws → length ws ≡ n)
-    → and_then r (λ v. and_then W (λ ws. Ok (v ∷ ws))) ≡ Ok vs → length vs ≡ suc n
-one_more n (Err e) W vs rest is = absurd (let no : ⊥ = cc in no)
-one_more n (Ok v) (Err e) vs rest is = absurd (let no : ⊥ = cc in no)
-one_more n (Ok v) (Ok ws) vs rest is = let same : vs ≡ v ∷ ws = cc in ap length same ∙ ap suc (rest ws refl)
-
-one_for_each : {R V : Type 0} (read : R → Result V Error) (xs : List R) (vs : List V) → all_ok read xs ≡ Ok vs → length vs ≡ length xs
-unfolding all_ok
-one_for_each read [] vs is = let same : vs ≡ [] = cc in ap length same
-one_for_each read (x ∷ xs) vs is = one_more (length xs) (read x) (all_ok read xs) vs (one_for_each read xs) is
-
-either : (b : Bool) → cond b 1 0 + cond (not b) 1 0 ≡ 1
-either true = refl
-either false = refl
-
--- items pass a test, or don't
-split_by : {R : Type 0} (p : R → Bool) (xs : List R) → count_by p xs + count_by (λ x. not (p x)) xs ≡ length xs
-split_by p [] = refl
-split_by p (x ∷ xs) =
-    let yes = sum_by-cons (λ y. cond (p y) 1 0) x xs in
-    let no = sum_by-cons (λ y. cond (not (p y)) 1 0) x xs in
-    let rest = split_by p xs in
-    omega (arith, yes, no, rest, either (p x))
 
 -- entries that give no module have no addresses
 pub others_counted : (order : Endian) (os : Option Os) (file : List ℕ) (raws : List MINIDUMP_MODULE) (ms : List ModuleValue)

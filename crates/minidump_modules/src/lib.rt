@@ -13,8 +13,8 @@
 //! malformed, `CodeViewReadFailure` for a malformed name or CodeView record of a loaded module,
 //! `ModuleReadFailure` for an unloaded module without addresses, `DataError` for a malformed name
 //! of one, and `OutOfMemory` where an allocation fails. A loaded module without addresses is
-//! skipped and counted, its name and its record unread. Printing returns `IoError` where the writer has failed
-//! by then, else `OutOfMemory` where an allocation fails.
+//! skipped and counted, its name and its record unread. Printing returns `IoError` where the writer
+//! has failed by then, else `OutOfMemory` where an allocation fails.
 //!
 //! # What is proved
 //!
@@ -22,7 +22,8 @@
 //!   error that it assigns, in at most n + 7 reads, where n is the length of the stream or of the
 //!   file, whichever is longer, and at least one for the count and for each entry and name, and for
 //!   the span, the signature and each field of a CodeView record: `MinidumpStream::read` of both
-//!   lists, by `module_list_in` and `unloaded_module_list_in`. One module by its entry:
+//!   lists, by `module_list_in` and `unloaded_module_list_in`. The number of entries without
+//!   addresses is theirs: `entries_without_addresses`. One module by its entry:
 //!   `MinidumpModule::read`, by `read_module`; `MinidumpUnloadedModule::read`, by `read_unloaded`.
 //! - The identifiers, the debug file and the version are those of the CodeView record, the system,
 //!   the build id and the version record: the functions of `Module`, by `identity_of` and

@@ -130,7 +130,3 @@ counted_more p xs i x is_zero inside item is =
     sum_by_more (λ y. cond (p y) 1 0) xs i x inside
     ∙ ap (λ b. count_by p (take i xs) + cond b 1 0) (ap p item ∙ is)
     ∙ ap (λ n. count_by p (take i xs) + n) (flipped is_zero)
-
-pub at_most_one : (b : Bool) → (if b then 0 else 1) ≤ 1
-at_most_one true = omega arith
-at_most_one false = omega arith

@@ -1,7 +1,7 @@
 -- The crash information of macOS: Mozilla's MDRawMacCrashInfo.
 pub mod Record
 pub mod Text
-use Rattle.std.specs.Prelude.{ℕ, ◌+◌, ◌==◌, List, ◌∷◌, map, min, take, Option, Some, None, Result, Ok, Err, slice_range}
+use Rattle.std.specs.Prelude.{ℕ, ◌+◌, ◌-◌, ◌==◌, List, ◌∷◌, length, map, min, take, Option, Some, None, Result, Ok, Err, slice_range}
 use Rattle.std.specs.Prelude.{if◌then◌else◌, IsSomeAnd, ◌<◌, ◌*◌}
 use Rattle.std.specs.List.{filter_map, sum_by, zip}
 use Rattle.std.specs.Option.{ok_or, option_and_then, option_map}
@@ -21,9 +21,17 @@ use Rattle.minidump_records.specs.MacCrashInfo.Record.{MacRecord, by_version, ma
 use Rattle.minidump_records.specs.declared.mac_crash_info.MinidumpMacCrashInfo.{MinidumpMacCrashInfo}
 use Rattle.minidump_records.specs.declared.mac_crash_info.raw.RawMacCrashInfo.{RawMacCrashInfo}
 
--- its records
-abbrev pub mac_crash_info_of : MinidumpMacCrashInfo → List MacRecord
-mac_crash_info_of s = map mac_record_of s.raw.items
+-- the records, and how many more are counted
+pub record MacRecords : Type 0 where
+  pub records : List MacRecord
+  pub unreadable : ℕ
+
+-- those of a value
+abbrev pub mac_crash_info_of : MinidumpMacCrashInfo → MacRecords
+mac_crash_info_of s = record {
+  records = map mac_record_of s.raw.items;
+  unreadable = s.unreadable;
+}
 
 -- the record of a value, if there is one
 abbrev pub record_if : Option RawMacCrashInfo → Option MacRecord
@@ -76,13 +84,22 @@ located_records order file start ls =
     and_then (all_ok (neighbouring_record order file start) (with_neighbours ls))
     (λ rs. Ok (filter_map (λ r. r) rs))
 
+-- these records, of so many that are counted: there is none for one of version 0, nor for those beyond
+-- the 20 locations
+abbrev pub counted_records : ℕ → List MacRecord → MacRecords
+counted_records count records = record {
+  records = records;
+  unreadable = count - length records;
+}
+
 -- Mozilla's MDRawMacCrashInfo: a count of records, of which the first 20 are read, and their
 -- locations. The numbers in it and in its records that name a type of stream are not tested
-abbrev pub mac_crash_info_in : Endian → List ℕ → List ℕ → Result (List MacRecord) Error
+abbrev pub mac_crash_info_in : Endian → List ℕ → List ℕ → Result MacRecords Error
 mac_crash_info_in order file bytes =
     and_then (ok_or (record_at mac_crash_info order 0 bytes) StreamReadFailure) (λ info.
-    located_records order file info.record_start_size
-    (take (min info.record_count 20) info.records))
+    and_then (located_records order file info.record_start_size
+    (take (min info.record_count 20) info.records)) (λ records.
+    Ok (counted_records info.record_count records)))
 
 -- how many records are read
 abbrev pub count_of_records : Endian → List ℕ → ℕ
@@ -91,15 +108,15 @@ count_of_records order bytes = min (number_at order 4 4 (slice_range bytes 0 172
 -- the stream of type MozMacosCrashInfoStream. Its reads are the record of the stream, the bytes and
 -- the head of each record that it counts, and those by the records' versions. It takes memory where
 -- it counts a record
-abbrev pub mac_crash_info_stream : StreamSpec MinidumpMacCrashInfo (List MacRecord)
+abbrev pub mac_crash_info_stream : StreamSpec MinidumpMacCrashInfo MacRecords
 mac_crash_info_stream = record {
   stream_type = number_of MozMacosCrashInfoStream;
   value = mac_crash_info_of;
   meaning = λ order file bytes system. mac_crash_info_in order file bytes;
   most = λ n. n + 7;
   fewest =
-      λ order bytes system records. 1 + 2 * count_of_records order bytes
-      + sum_by record_reads records;
+      λ order bytes system info. 1 + 2 * count_of_records order bytes
+      + sum_by record_reads info.records;
   memory =
       λ order file bytes system. IsSomeAnd (record_at mac_crash_info order 0 bytes)
       (λ info. 0 < info.record_count);

@@ -55,11 +55,11 @@
 //!   `assertion_in`, `mac_bootargs_in`; `MinidumpAssertion::expression`, `function`, `file`. Soft
 //!   errors are the stream as UTF-8: `soft_errors_in`.
 //! - The records of macOS are those at the locations that the stream counts, 20 at most, without
-//!   those of version 0. Each is read by its version, and its texts lie within its bytes:
-//!   `MinidumpMacCrashInfo::read`, by `mac_crash_info_in`. A read takes at least one step for the
-//!   stream, for the bytes and the head of each record, and for the fixed part and each text from
-//!   version 4 on. Numbers that are 0 and empty texts are absent: the accessors of
-//!   `RawMacCrashInfo`.
+//!   those of version 0; how many more it counts is known: `unreadable_records`. Each is read by
+//!   its version, and its texts lie within its bytes: `MinidumpMacCrashInfo::read`, by
+//!   `mac_crash_info_in`. A read takes at least one step for the stream, for the bytes and the head
+//!   of each record, and for the fixed part and each text from version 4 on. Numbers that are 0 and
+//!   empty texts are absent: the accessors of `RawMacCrashInfo`.
 //! - A Linux text is its stream. Its iterator yields exactly the pairs of its lines, or the lines,
 //!   and ends: `iter` of each, by `pairs_of`; `LinuxPairs::next`.
 //! - Streams whose value depends on their bytes and the byte order alone:

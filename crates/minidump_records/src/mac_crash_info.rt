@@ -23,9 +23,18 @@ use std::alloc::Global;
 pub struct MinidumpMacCrashInfo {
     /// The records. Those of version 0 are left out.
     pub raw: Vec<RawMacCrashInfo>,
+    unreadable: u64,
 }
 
 impl MinidumpMacCrashInfo {
+    /// Returns how many records the stream counts that are not in `raw`: those of version 0, and those
+    /// beyond the 20 whose locations it has room for. They are damage.
+    pub fn unreadable_records(&self) -> u64
+        ensures { result ≡ (mac_crash_info_of self.now).unreadable }
+    {
+        self.unreadable
+    }
+
     /// Copies the information. The only error is [`Error::OutOfMemory`], and only if there is a
     /// record.
     pub fn try_clone(&self, alloc: Global) -> Result<MinidumpMacCrashInfo, Error>
@@ -37,23 +46,25 @@ impl MinidumpMacCrashInfo {
         for record in &self.raw {
             raw.push(record.try_clone(alloc)?)?;
         }
-        Ok(MinidumpMacCrashInfo { raw })
+        Ok(MinidumpMacCrashInfo {
+            raw,
+            unreadable: self.unreadable,
+        })
     }
 }
 
 /// Reads Mozilla's `MDRawMacCrashInfo`: of the records that it counts, the first 20. Records of
-/// version 0 are left out.
+/// version 0 are left out; [`unreadable_records`](MinidumpMacCrashInfo::unreadable_records) counts
+/// what is not read.
 ///
 /// Returns `StreamReadFailure` if the stream is shorter than 172 bytes, if the bytes of a record,
 /// its fixed part or one of its texts is missing, or if the texts would begin within the fixed
 /// part, or one is not UTF-8. Returns `VersionMismatch` if a record has another version than the
 /// record before it.
 impl<'a> MinidumpStream<'a> for MinidumpMacCrashInfo {
-    ghost use Rattle.std.specs.Prelude.{List};
-    ghost use Rattle.minidump_records.specs.MacCrashInfo.Record.{MacRecord};
-    ghost use Rattle.minidump_records.specs.MacCrashInfo.{mac_crash_info_stream};
+    ghost use Rattle.minidump_records.specs.MacCrashInfo.{MacRecords, mac_crash_info_stream};
 
-    ghost Value = { List MacRecord };
+    ghost Value = { MacRecords };
 
     ghost spec = { mac_crash_info_stream };
 
@@ -74,10 +85,12 @@ impl<'a> MinidumpStream<'a> for MinidumpMacCrashInfo {
         let info: MINIDUMP_MAC_CRASH_INFO = bytes
             .record(0, endian, steps)
             .ok_or(Error::StreamReadFailure)?;
-        let count = (info.record_count as usize).min(20);
+        let count = info.record_count as usize;
+        let locations = &info.records[..count.min(20)];
         let start = info.record_start_size;
-        let raw = read_records(alloc, &info.records[..count], start, all, endian, steps)?;
-        Ok(MinidumpMacCrashInfo { raw })
+        let raw = read_records(alloc, locations, start, all, endian, steps)?;
+        let unreadable = (count - raw.len()) as u64;
+        Ok(MinidumpMacCrashInfo { raw, unreadable })
     }
 }
 
@@ -93,6 +106,7 @@ fn read_records(
 ) -> Result<Vec<RawMacCrashInfo>, Error>
     ensures means { Gives (λ v. map mac_record_of v.items) (0 < length locations.now) result
         (located_records endian (bytes_of all.entry) start locations.now) }
+    ensures few { IfOk result (λ v. length v.items ≤ length locations.now) }
     ensures within { steps.new ≤ steps.old + 8 * length locations.now }
     ensures grows { steps.old ≤ steps.new }
     ensures at_least { IfOk result

@@ -173,7 +173,8 @@ fn read_names(
 
 // Returns 1 for an RVA that isn't 0, and 0 for 0.
 fn unless_zero(rva: u64) -> u64
-    ensures { result ≡ (if rva == 0 then 0 else 1) }
+    ensures count { result ≡ (if rva == 0 then 0 else 1) }
+    ensures few { result ≤ 1 }
 {
     if rva == 0 { 0 } else { 1 }
 }

@@ -1,7 +1,7 @@
 -- The items of entries: none, one more, one that is skipped, and the first error.
-use Rattle.std.proofs.Common.{◌≡◌, ℕ, ◌+◌, ◌<◌, List, [], ◌∷◌, ◌++◌, length, get_or, take, drop, map, Result, Ok, Err, Option, Some, None, refl, ap, sym}
+use Rattle.std.proofs.Common.{◌≡◌, ℕ, ◌+◌, ◌<◌, List, [], ◌∷◌, ◌++◌, length, get_or, take, drop, map, Result, Ok, Err, Option, Some, None, refl, ap, sym, suc}
 use Rattle.std.proofs.Common.{◌∙◌, add-one, append-nil, arith, drop-cons}
-use Rattle.std.specs.Prelude.{Bool, true, false, filter}
+use Rattle.std.specs.Prelude.{Bool, true, false, cond, count_by, filter, not}
 use Rattle.std.specs.List.{cons_option, sum_by}
 use Rattle.std.proofs.lemmas.List.{take-append-drop, take_more}
 use Rattle.std.proofs.lemmas.List.Sums.{sum_by-cons}
@@ -100,3 +100,28 @@ kept_each read (x ∷ xs) = rw (kept_each read xs) (both (read x) (all_ok read x
 pub sum_of_ones : {R : Type 0} (xs : List R) → sum_by (λ x. 1) xs ≡ length xs
 sum_of_ones [] = refl
 sum_of_ones (x ∷ xs) = rw (sum_by-cons (λ x. 1) x xs, sum_of_ones xs) (omega arith)
+
+-- where all are read, there is one value for each
+one_value_more : {V : Type 0} (n : ℕ) (r : Result V Error) (W : Result (List V) Error) (vs : List V) → ((ws : List V) → W ≡ Ok ws → length ws ≡ n)
+    → and_then r (λ v. and_then W (λ ws. Ok (v ∷ ws))) ≡ Ok vs → length vs ≡ suc n
+one_value_more n (Err e) W vs rest is = absurd (let no : ⊥ = cc in no)
+one_value_more n (Ok v) (Err e) vs rest is = absurd (let no : ⊥ = cc in no)
+one_value_more n (Ok v) (Ok ws) vs rest is = let same : vs ≡ v ∷ ws = cc in ap length same ∙ ap suc (rest ws refl)
+
+pub one_for_each : {R V : Type 0} (read : R → Result V Error) (xs : List R) (vs : List V) → all_ok read xs ≡ Ok vs → length vs ≡ length xs
+unfolding all_ok
+one_for_each read [] vs is = let same : vs ≡ [] = cc in ap length same
+one_for_each read (x ∷ xs) vs is = one_value_more (length xs) (read x) (all_ok read xs) vs (one_for_each read xs) is
+
+yes_or_no : (b : Bool) → cond b 1 0 + cond (not b) 1 0 ≡ 1
+yes_or_no true = refl
+yes_or_no false = refl
+
+-- items pass a test, or don't
+pub split_by : {R : Type 0} (p : R → Bool) (xs : List R) → count_by p xs + count_by (λ x. not (p x)) xs ≡ length xs
+split_by p [] = refl
+split_by p (x ∷ xs) =
+    let yes = sum_by-cons (λ y. cond (p y) 1 0) x xs in
+    let no = sum_by-cons (λ y. cond (not (p y)) 1 0) x xs in
+    let rest = split_by p xs in
+    omega (arith, yes, no, rest, yes_or_no (p x))

@@ -14,7 +14,7 @@ use Rattle.minidump.specs.Below.System.Cpu.{pointer_bytes}
 use Rattle.stack_walk.specs.declared.frame.FrameTrust.TheVariants.{FramePointer}
 use Rattle.stack_walk.specs.declared.frame.StackFrame.{StackFrame}
 use Rattle.stack_walk.specs.Addresses.{address_after, unmarked, unsigned}
-use Rattle.stack_walk.specs.Frames.{StackValue, caller_at, caller_by, caller_of, pointer_at, pointer_in, return_at, stack_bytes}
+use Rattle.stack_walk.specs.Frames.{StackValue, caller_at, caller_by, caller_of, pointer_at, pointer_in, record_of, return_at, stack_bytes}
 use Rattle.stack_walk.specs.Lookups.{call_site, is_code}
 use Rattle.stack_walk.proofs.AddressLemmas.{sum_after}
 
@@ -87,7 +87,7 @@ pub record Record (s : StackValue) (f g : StackFrame) : Type 0 where
   pub saved : ℕ
   pub word : ℕ
   pub is_size : pointer_bytes s.width ≡ Some size
-  pub points : f.frame_pointer ≡ Some address
+  pub points : record_of f ≡ Some address
   pub above : f.stack_pointer ≤ address
   pub first : pointer_at s address ≡ Some saved
   pub second : pointer_at s (address + size) ≡ Some word
@@ -148,10 +148,10 @@ at s size address g e =
 pub has_record : (s : StackValue) (f g : StackFrame) → caller_of s f ≡ Some g → Record s f g
 has_record s f g e =
     let size =
-    step (λ size. option_and_then (λ address. if nat_lt address f.stack_pointer then None else caller_at s size address) f.frame_pointer)
+    step (λ size. option_and_then (λ address. if nat_lt address f.stack_pointer then None else caller_at s size address) (record_of f))
     (pointer_bytes s.width) g e
     in
-    let address = step (λ address. if nat_lt address f.stack_pointer then None else caller_at s size.0 address) f.frame_pointer g size.2 in
+    let address = step (λ address. if nat_lt address f.stack_pointer then None else caller_at s size.0 address) (record_of f) g size.2 in
     let above = failed (nat_lt address.0 f.stack_pointer) (caller_at s size.0 address.0) g address.2 in
     let r = at s size.0 address.0 g above.1 in
     record {

@@ -21,7 +21,7 @@ use Rattle.stack_walk.specs.declared.frame.FrameTrust.{FrameTrust}
 use Rattle.stack_walk.specs.declared.frame.FrameTrust.TheVariants.{FramePointer}
 use Rattle.stack_walk.specs.declared.frame.StackFrame.{StackFrame}
 use Rattle.stack_walk.specs.Addresses.{address_after, unsigned}
-use Rattle.stack_walk.specs.Frames.{StackValue, candidate_at, candidate_by, firsts, is_other, link_candidate, pointer_at, record_by, return_at, scan, stack_bytes, word_candidate}
+use Rattle.stack_walk.specs.Frames.{StackValue, candidate_at, candidate_by, firsts, is_other, link_candidate, pointer_at, record_by, record_of, return_at, scan, stack_bytes, word_candidate}
 use Rattle.stack_walk.specs.Frames.{word_candidates, words_above, words_below, words_between, words_from}
 use Rattle.stack_walk.proofs.CallerLemmas.{base_of, end_of, in_stack, mapped, step, wide}
 
@@ -273,7 +273,7 @@ each_above s link frames last limit number size f is_last is above e enough =
     (of_words s (words_above s frames) number f (rw words on) e)))
 
 words_of_first : (s : StackValue) (first caller : StackFrame) (callers : List StackFrame) (until : ℕ) → caller.trust ≡ FramePointer
-    → first.frame_pointer ≡ Some until → words_below s (first ∷ caller ∷ callers) ≡ words_between s first.stack_pointer until
+    → record_of first ≡ Some until → words_below s (first ∷ caller ∷ callers) ≡ words_between s first.stack_pointer until
 unfolding words_below
 words_of_first s first caller callers until trust points =
     ap (λ (t : FrameTrust). option_map_or (words_between s first.stack_pointer) (record_by t first) (0, 0)) trust
@@ -281,7 +281,7 @@ words_of_first s first caller callers until trust points =
 
 -- each word of the first frame below its until
 pub each_below : (s : StackValue) (link : Option ℕ) (first caller : StackFrame) (callers : List StackFrame) (until limit number size : ℕ) (f : StackFrame)
-    → caller.trust ≡ FramePointer → first.frame_pointer ≡ Some until → pointer_bytes s.width ≡ Some size
+    → caller.trust ≡ FramePointer → record_of first ≡ Some until → pointer_bytes s.width ≡ Some size
     → first.stack_pointer ≤ number * size → number * size + size ≤ until → word_candidate s number ≡ Some f
     → length (stack_bytes s) ≤ limit → Contains (words_of (scan s link (first ∷ caller ∷ callers) limit)) f.instruction
 each_below s link first caller callers until limit number size f trust points is above high e enough =

@@ -8,7 +8,7 @@ use Rattle.std.proofs.lemmas.Bool.{cases_lt}
 use Rattle.std.proofs.lemmas.Bool.Decides.{nat_tests}
 use Rattle.minidump.specs.Below.MemoryLists.Unified.{UnifiedRegion}
 use Rattle.stack_walk.specs.declared.frame.StackFrame.{StackFrame}
-use Rattle.stack_walk.specs.Frames.{AreCallers, IsWalk, StackValue, caller_of, stack_bytes}
+use Rattle.stack_walk.specs.Frames.{AreCallers, IsWalk, StackValue, caller_of, record_of, stack_bytes}
 use Rattle.stack_walk.specs.Walk.{addresses_of, caller_here, callers_at, callers_in, outermost, points_to}
 use Rattle.stack_walk.proofs.CallerLemmas.{base_of, end_of, has_record, in_stack, passed, wide}
 use Rattle.stack_walk.proofs.WalkLemmas.{same_walk}
@@ -16,7 +16,7 @@ use Rattle.stack_walk.proofs.WalkLemmas.{same_walk}
 -- where the record of a frame that has a caller stands
 record Stands (s : StackValue) (f g : StackFrame) : Type 0 where
   address : ℕ
-  points : f.frame_pointer ≡ Some address
+  points : record_of f ≡ Some address
   above : f.stack_pointer ≤ address
   from : base_of s ≤ address
   within : address < end_of s
@@ -38,10 +38,10 @@ stands s f g e =
 
 -- no record of a frame that has a caller stands below an address
 abbrev IsAhead : StackValue → StackFrame → ℕ → Type 0
-IsAhead s f p = (g : StackFrame) (a : ℕ) → caller_of s f ≡ Some g → f.frame_pointer ≡ Some a → p ≤ a
+IsAhead s f p = (g : StackFrame) (a : ℕ) → caller_of s f ≡ Some g → record_of f ≡ Some a → p ≤ a
 
 -- the record stands at the address to which the frame points
-at_pointer : (s : StackValue) (f g : StackFrame) (a : ℕ) (st : Stands s f g) → f.frame_pointer ≡ Some a → st.address ≡ a
+at_pointer : (s : StackValue) (f g : StackFrame) (a : ℕ) (st : Stands s f g) → record_of f ≡ Some a → st.address ≡ a
 at_pointer s f g a st is = (let k : Some st.address ≡ Some a = sym st.points ∙ is in cc)
 
 -- ---- a step
@@ -63,17 +63,17 @@ unfolding callers_at
 callers_end s f = refl
 
 -- a frame that points to an address has its caller there
-here : (s : StackValue) (f : StackFrame) (a : ℕ) → f.frame_pointer ≡ Some a → caller_here s f a ≡ caller_of s f
+here : (s : StackValue) (f : StackFrame) (a : ℕ) → record_of f ≡ Some a → caller_here s f a ≡ caller_of s f
 here s f a is =
     let same : (a == a) ≡ true = grind (arith, nat_tests) in
     let points : points_to f a ≡ true = ap (λ (o : Option ℕ). option_map_or (λ pointer. pointer == a) o false) is ∙ same in
     ap (λ (b : Bool). if b then caller_of s f else None) points
 
 -- what is met at an address is the caller, and the frame points there
-met : (s : StackValue) (f g : StackFrame) (a : ℕ) → caller_here s f a ≡ Some g → (caller_of s f ≡ Some g) × (f.frame_pointer ≡ Some a)
+met : (s : StackValue) (f g : StackFrame) (a : ℕ) → caller_here s f a ≡ Some g → (caller_of s f ≡ Some g) × (record_of f ≡ Some a)
 met s f g a e =
     let both = passed (points_to f a) (caller_of s f) g e in
-    (both.1, pointer f.frame_pointer both.0)
+    (both.1, pointer (record_of f) both.0)
   where
     pointer : (o : Option ℕ) → option_map_or (λ pointer. pointer == a) o false ≡ true → o ≡ Some a
     pointer None is = cc

@@ -58,7 +58,7 @@ is_in_upper_half word = word / 2 ^ 55 % 2 == 1
 abbrev pub unsigned : ℕ → ℕ → ℕ
 unsigned bits word = if is_in_upper_half word then word else word % 2 ^ bits
 
--- a saved frame pointer without the mark of Swift: on Apple's systems of 64 bits an async function sets
+-- a frame pointer without the mark of Swift: on Apple's systems of 64 bits an async function sets
 -- bit 60 of the one that it saves. A word whose bits from 60 up are anything else has no mark, and stays
 -- as it is. The system and the processor don't matter: no address of a process has bit 60 alone of these
 -- four bits, and a word of 32 bits has none of them

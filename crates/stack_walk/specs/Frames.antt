@@ -135,7 +135,12 @@ caller_at s size address = option_and_then
     (return_at s (address + size))) (pointer_at s address))
     (address_after s.width address (2 * size))
 
--- the caller of a frame: that of the record at its frame pointer, which lies at or above its stack
+-- where the record of a frame stands: at its frame pointer without the mark of Swift, which that of a
+-- context, or one that rules give, may have
+abbrev pub record_of : StackFrame → Option ℕ
+record_of f = option_map unmarked f.frame_pointer
+
+-- the caller of a frame: that of its record, which stands at or above its stack
 -- pointer. On x86 and x86-64 a function pushes the frame pointer and points it to what it pushed,
 -- where the stack pointer is then; on ARM and ARM64 the record lies in the function's own frame.
 -- Later the stack pointer only falls. The stack pointer of a caller is the address after the record
@@ -143,7 +148,7 @@ caller_at s size address = option_and_then
 -- a circle
 abbrev pub caller_of : StackValue → StackFrame → Option StackFrame
 caller_of s f = option_and_then (λ size. option_and_then (λ address.
-    if nat_lt address f.stack_pointer then None else caller_at s size address) f.frame_pointer)
+    if nat_lt address f.stack_pointer then None else caller_at s size address) (record_of f))
     (pointer_bytes s.width)
 
 -- the callers of a frame, the innermost first: each is the caller of the one before it, and the
@@ -225,7 +230,7 @@ words_between s from until =
 abbrev pub record_by : FrameTrust → StackFrame → Option ℕ
 record_by Context f = None
 record_by Cfi f = None
-record_by FramePointer f = f.frame_pointer
+record_by FramePointer f = record_of f
 record_by Scan f = None
 record_by Link f = None
 

@@ -8,12 +8,13 @@ use Rattle.minidump.specs.Below.MemoryLists.Unified.{UnifiedRegion}
 use Rattle.stack_walk.specs.declared.end.WalkEnd.{WalkEnd}
 use Rattle.stack_walk.specs.declared.frame.StackFrame.{StackFrame}
 use Rattle.stack_walk.specs.declared.walk.Walk.{Walk}
-use Rattle.stack_walk.specs.Frames.{StackValue, caller_of, context_frame, link_in, scan}
+use Rattle.stack_walk.specs.Frames.{StackValue, caller_of, context_frame, link_in, record_of}
+use Rattle.stack_walk.specs.Frames.{scan}
 use Rattle.stack_walk.specs.WalkEnd.{walk_end}
 
--- whether the frame pointer of a frame is this address
+-- whether the record of a frame stands at this address
 abbrev pub points_to : StackFrame → ℕ → Bool
-points_to f address = option_map_or (λ pointer. pointer == address) f.frame_pointer false
+points_to f address = option_map_or (λ at. at == address) (record_of f) false
 
 -- the caller of a frame, where the record at an address leads to it
 abbrev pub caller_here : StackValue → StackFrame → ℕ → Option StackFrame

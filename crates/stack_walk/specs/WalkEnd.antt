@@ -9,14 +9,14 @@ use Rattle.stack_walk.specs.declared.end.WalkEnd.TheVariants.{NoFramePointer, Ze
 use Rattle.stack_walk.specs.declared.end.WalkEnd.TheVariants.{BelowStackPointer, NoRecord, NoCode}
 use Rattle.stack_walk.specs.declared.frame.StackFrame.{StackFrame}
 use Rattle.stack_walk.specs.Addresses.{address_after}
-use Rattle.stack_walk.specs.Frames.{StackValue, pointer_at}
+use Rattle.stack_walk.specs.Frames.{StackValue, pointer_at, record_of}
 
 -- whether a stack holds both words of a record at an address, and an address lies after it
 abbrev pub has_record : StackValue → ℕ → ℕ → Bool
 has_record s size address = is_some (address_after s.width address (2 * size))
     && (is_some (pointer_at s address) && is_some (pointer_at s (address + size)))
 
--- why a frame with this frame pointer has no caller
+-- why a frame whose record would stand at this address has no caller
 abbrev end_at : StackValue → StackFrame → ℕ → ℕ → WalkEnd
 end_at s f size address =
     if address == 0 then ZeroFramePointer
@@ -25,7 +25,7 @@ end_at s f size address =
 
 -- why a frame has none, where an address has so many bytes
 abbrev end_by : StackValue → StackFrame → ℕ → WalkEnd
-end_by s f size = option_map_or (end_at s f size) f.frame_pointer NoFramePointer
+end_by s f size = option_map_or (end_at s f size) (record_of f) NoFramePointer
 
 -- why a frame has no caller: the first of these reasons that holds
 abbrev pub walk_end : StackValue → StackFrame → WalkEnd

@@ -81,7 +81,7 @@ pub(crate) fn is_in_upper_half(word: u64) -> bool
     word / (1 << 55) % 2 == 1
 }
 
-// Returns a saved frame pointer without the mark of Swift: bit 60, if it is the only one of the four
+// Returns a frame pointer without the mark of Swift: bit 60, if it is the only one of the four
 // highest that is set.
 pub(crate) fn unmarked(word: u64) -> u64
     ensures { result ≡ unmarked word }

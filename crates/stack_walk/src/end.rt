@@ -3,9 +3,11 @@ ghost use Rattle.stack_walk.specs.Frames.{stack_of};
 ghost use Rattle.stack_walk.specs.WalkEnd.{has_record, walk_end};
 
 use crate::addresses::address_after;
+use crate::stack::record_of;
 use crate::{Stack, StackFrame};
 
-/// Why the last frame of a walk has no caller by its frame pointer: the first of these that holds.
+/// Why the last frame of a walk has no caller by its frame pointer, taken without the mark of Swift:
+/// the first of these that holds.
 #[derive(Clone, Copy, PartialEq, Eq)]
 pub enum WalkEnd {
     /// The dump has no memory of the stack.
@@ -38,7 +40,7 @@ impl Stack<'_, '_> {
         let Some(size) = self.width.size_in_bytes() else {
             return WalkEnd::UnknownWidth;
         };
-        let Some(address) = frame.frame_pointer else {
+        let Some(address) = record_of(frame) else {
             return WalkEnd::NoFramePointer;
         };
         if address == 0 {

@@ -36,8 +36,8 @@ pub struct StackFrame {
     /// scan has the address after its return address, and that of the link register has the stack
     /// pointer of the context: the lowest that its stack pointer can be.
     pub stack_pointer: u64,
-    /// The frame pointer, as the context, the rules or the frame record give it, the last without the
-    /// mark of Swift, or `None` if it isn't known.
+    /// The frame pointer, or `None` if it isn't known: as the context or the rules give it, or as the
+    /// frame record has it, without the mark of Swift.
     pub frame_pointer: Option<u64>,
     /// How the frame was found.
     pub trust: FrameTrust,

@@ -9,7 +9,7 @@ ghost use Rattle.stack_walk.specs.Evidence.{IsShown};
 ghost use Rattle.minidump.specs.Below.Contexts.Context.{registers_of, value_in};
 ghost use Rattle.minidump.specs.declared.MinidumpRawContext.{MinidumpRawContext};
 ghost use Rattle.stack_walk.specs.Frames.{AreFrames, StackValue, instruction_pointer_in, scan, stack_bytes};
-ghost use Rattle.stack_walk.specs.Frames.{link_candidate, stack_pointer_in, word_candidate};
+ghost use Rattle.stack_walk.specs.Frames.{link_candidate, record_of, stack_pointer_in, word_candidate};
 ghost use Rattle.stack_walk.specs.Link.{IsLinkCandidate};
 ghost use Rattle.stack_walk.specs.Walk.{frames_in};
 ghost use Rattle.stack_walk.specs.declared.frame.FrameTrust.TheVariants.{FramePointer, Link};
@@ -63,7 +63,7 @@ pub fn each_aligned_word_is_scanned()
         → Contains (map (λ g. g.instruction) (scan s link frames limit)) f.instruction }
     ensures below { (s : StackValue) (link : Option ℕ) (first caller : StackFrame)
         (callers : List StackFrame) (record_address limit number size : ℕ) (f : StackFrame)
-        → caller.trust ≡ FramePointer → first.frame_pointer ≡ Some record_address
+        → caller.trust ≡ FramePointer → record_of first ≡ Some record_address
         → pointer_bytes s.width ≡ Some size → first.stack_pointer ≤ number * size
         → number * size + size ≤ record_address → word_candidate s number ≡ Some f
         → length (stack_bytes s) ≤ limit

@@ -74,7 +74,8 @@ pub use walk::{Walk, walk_stack};
 ///   record lies at or above the stack pointer of its frame, which for a caller is the address
 ///   after the record that leads to it. The last frame is the one whose frame pointer leads to no
 ///   record. On Apple's systems an async function of Swift marks the frame pointer that it saves, by
-///   bit 60: where that bit alone of the highest four is set, the caller has it without the mark.
+///   bit 60: where that bit alone of the highest four is set, the record stands at the address without
+///   the mark, and a caller by a record has its frame pointer without it.
 /// - A candidate is an aligned word that may be a return address: a kept module contains it, past its
 ///   first page, which has the module's headers; the memory there may be run, as far as is known of
 ///   it; and on x86, x86-64 and ARM64 a call ends before it, as far as the dump has these bytes.

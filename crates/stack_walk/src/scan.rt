@@ -16,6 +16,7 @@ use crate::addresses::address_after;
 use crate::calls::may_end_call;
 use crate::link::link_candidate;
 use crate::lookups::{call_site, is_past_headers, may_be_run};
+use crate::stack::record_of;
 use crate::{FrameTrust, Stack, StackFrame};
 use minidump::system_info::PointerWidth;
 use std::alloc::{AllocError, Global};
@@ -140,7 +141,7 @@ fn record_by(trust: FrameTrust, frame: &StackFrame) -> Option<u64>
     ensures { result ≡ record_by trust frame.now }
 {
     match trust {
-        FrameTrust::FramePointer => frame.frame_pointer,
+        FrameTrust::FramePointer => record_of(frame),
         FrameTrust::Context | FrameTrust::Cfi | FrameTrust::Scan | FrameTrust::Link => None,
     }
 }

@@ -1,6 +1,7 @@
 ghost use Rattle.std.specs.Prelude.{◌≡◌};
 ghost use Rattle.stack_walk.specs.Addresses.{unsigned};
-ghost use Rattle.stack_walk.specs.Frames.{caller_at, caller_of, pointer_at, return_at, stack_of};
+ghost use Rattle.stack_walk.specs.Frames.{caller_at, caller_of, pointer_at, record_of, return_at};
+ghost use Rattle.stack_walk.specs.Frames.{stack_of};
 
 use crate::addresses::{address_after, is_in_upper_half, unmarked};
 use crate::lookups::{call_site, is_code};
@@ -72,12 +73,19 @@ impl Stack<'_, '_> {
         ensures { result ≡ caller_of (stack_of self.now) frame.now }
     {
         let size = self.width.size_in_bytes()?;
-        let address = frame.frame_pointer?;
+        let address = record_of(frame)?;
         if address < frame.stack_pointer {
             return None;
         }
         caller_at(self, size as u64, address)
     }
+}
+
+// Returns where the record of a frame stands: at its frame pointer without the mark of Swift.
+pub(crate) fn record_of(frame: &StackFrame) -> Option<u64>
+    ensures { result ≡ record_of frame.now }
+{
+    Some(unmarked(frame.frame_pointer?))
 }
 
 // Returns the frame to which the record at an address returns.

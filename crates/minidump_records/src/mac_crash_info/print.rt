@@ -22,7 +22,7 @@ impl MinidumpMacCrashInfo {
     #[tactic(auto, using(minidump_format::proofs::Printing::prints_then, minidump_format::proofs::Printing::prints_exit))]
     pub fn print<W: Write>(&self, alloc: Global, f: &mut Told<W>) -> Result<(), Error>
         ensures { Prints W.contents f.old f.new
-            (mac_crash_info_text (mac_crash_info_of self.now)) result }
+            (mac_crash_info_text (mac_crash_info_of self.now).records) result }
     {
         let words = "MINIDUMP_MAC_CRASH_INFO\n  num_records = ";
         let records = self.raw.as_slice();

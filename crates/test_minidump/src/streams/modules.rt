@@ -1,6 +1,7 @@
 use crate::streams::files::system;
 use minidump::format::MINIDUMP_MODULE;
 use minidump::{CodeId, DebugId, Endian, Error, MinidumpModule, Module};
+use minidump_bytes::as_text;
 use minidump_synth::{SynthMinidump, zeroed};
 use std::alloc::{AllocError, Global};
 
@@ -49,7 +50,7 @@ fn debug_id_text(alloc: Global, id: Option<DebugId>) -> Result<Option<String>, A
 }
 
 fn is_text(text: &Option<String>, want: Option<&str>) -> bool {
-    text.as_ref().map(|text| text.as_str()) == want
+    as_text(text) == want
 }
 
 // `RSDS` with a GUID of zeros, a build id of zeros, one of no bytes, and a record of another

@@ -8,7 +8,8 @@ use Rattle.minidump.specs.Below.Modules.ModuleList.{ListedModules, module_list_o
 use Rattle.minidump.specs.Dump.{stream_of}
 use Rattle.minidump.specs.DumpValue.{dump_of}
 use Rattle.minidump.specs.Promise.{module_list_stream}
-use Rattle.mdump.specs.Done.{IsModuleLine, modules_of_dump}
+use Rattle.minidump.specs.Modules.{modules_of_dump}
+use Rattle.mdump.specs.Done.{IsModuleLine}
 use Rattle.mdump.specs.Lines.{IsLookedUpIn, module_line}
 use Rattle.mdump.proofs.PrintLemmas.{print_error, writes_text}
 use Rattle.mdump.proofs.module.module_line.Goals as goal

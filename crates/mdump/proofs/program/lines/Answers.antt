@@ -3,7 +3,8 @@ use Rattle.minidump.specs.DumpValue.{dump_of}
 use Rattle.std.specs.Option.{option_map}
 use Rattle.minidump.specs.Below.MemoryLists.UnifiedInfo.{range_of_info_region, info_regions}
 use Rattle.minidump.specs.Below.Modules.Module.{range_of_module}
-use Rattle.mdump.specs.Done.{AreLastLines, IsInfoLine, IsMemoryLine, IsModuleLine, info_of_dump, modules_of_dump}
+use Rattle.minidump.specs.Modules.{modules_of_dump}
+use Rattle.mdump.specs.Done.{AreLastLines, IsInfoLine, IsMemoryLine, IsModuleLine, info_of_dump}
 use Rattle.mdump.specs.Lines.{info_line, module_line}
 use Rattle.mdump.proofs.JoinLemmas.{a_line, both_lines, cut, join_writes}
 use Rattle.mdump.proofs.program.lines.Goals as goal

@@ -1,5 +1,5 @@
 -- No record yet, and one record more: it is kept, it is left out, or it is an error.
-use Rattle.std.proofs.Common.{arith, map}
+use Rattle.std.proofs.Common.{◌∷◌, [], arith, length-append, map}
 use Rattle.std.proofs.lemmas.List.{drop_all, map_push}
 use Rattle.std.proofs.lemmas.List.Sums.{sum_by_push}
 use Rattle.minidump_bytes.specs.Source.{bytes_of}
@@ -12,6 +12,7 @@ use Rattle.minidump_records.proofs.mac_crash_info.read_records.Goals.{in-Some+in
 pub loop-location-init : goal.loop-location-init
 loop-location-init c = record {
   whole = rw c.in_ok-records.ensures.items (all_left c.args.endian (bytes_of c.args.all) c.args.start c.args.locations.now);
+  few = rw c.in_ok-records.ensures.items (omega arith);
   within = omega arith;
   grows = omega arith;
   least = rw c.in_ok-records.ensures.items (omega arith);
@@ -30,6 +31,7 @@ loop-location-preserved c = elim c.match-record.branch [
         left_some c.args.endian (bytes_of c.args.all) c.args.start _ _ _ c.args.locations.now c.loop-location.location-index _
         c.loop-location-test.true c.loop-location.invariant.whole
         _ _ c.in_ok-version.ensures.version (rw w.in-Some.is at c.in_ok-version.ensures.means);
+    few = omega (arith, length-append c.loop-location.records.items (w.in-Some.record ∷ []), c.loop-location.invariant.few);
     within = omega (arith, c.read_located.ensures.within, c.loop-location.invariant.within);
     grows = omega (arith, c.read_located.ensures.grows, c.loop-location.invariant.grows);
     least = rw (sum_by_push record_reads (map mac_record_of c.loop-location.records.items) (mac_record_of w.in-Some.record))
@@ -40,6 +42,7 @@ loop-location-preserved c = elim c.match-record.branch [
         left_none c.args.endian (bytes_of c.args.all) c.args.start _ _ _ c.args.locations.now c.loop-location.location-index _
         c.loop-location-test.true c.loop-location.invariant.whole
         _ c.in_ok-version.ensures.version (rw w.in_default.is at c.in_ok-version.ensures.means);
+    few = omega (arith, c.loop-location.invariant.few);
     within = omega (arith, c.read_located.ensures.within, c.loop-location.invariant.within);
     grows = omega (arith, c.read_located.ensures.grows, c.loop-location.invariant.grows);
     least = omega (arith, rw w.in_default.is at c.in_ok-version.ensures.at_least, c.loop-location.invariant.least);
