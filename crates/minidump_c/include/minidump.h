@@ -223,11 +223,8 @@ struct minidump_facts {
     size_t stack_of;        /* the index of the last thread whose stack, as the dump's list has it, contains it */
     size_t below_stack;     /* the index of the last thread whose stack begins above it, by at most 4,096 bytes */
     uint32_t memory_state;  /* enum minidump_state, of the memory that contains it */
-    uint8_t has_address;    /* 0 where no exception counts, without a system, for a signal that a process sent, on Linux and
-                             * Android for one at 0 that is no fault, or the kernel's own without an address, on macOS for
-                             * a general protection at 0, on Windows for one of x86 or x86-64 and where LLDB's text stands
-                             * over the address, and for an access at its own instruction pointer, in code, whose flags are
-                             * LLDB's or, but on Windows, 0 */
+    uint8_t has_address;    /* 0 where no exception counts, without a system, and where the record has no address that was
+                             * accessed, as that of a signal that a process sent; docs/DECISIONS.md has each case */
     uint8_t has_null_offset;
     uint8_t is_canonical; /* 0 for an address of x86-64 whose bits 47 to 63 differ, and where has_address is 0; else 1 */
     uint8_t has_module;
