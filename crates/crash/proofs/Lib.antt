@@ -15,4 +15,3 @@ pub mod NumberedFound
 pub mod PaddedLemmas
 pub mod PointLemmas
 pub mod TallyLemmas
-pub mod ThreadLemmas

@@ -60,7 +60,8 @@ crash_of_findings c f = record {
 abbrev pub damage_in : ContentsValue → DirectoryValue → ProcessFacts → CauseValue → ThreadsValue
     → List Damage
 damage_in c directory process cause threads = damage_by directory.entries
-    (counted_damage c directory process.comments) cause.exceptions threads.threads
+    (counted_damage c directory process.comments) c.threads.exceptions cause.exceptions
+    threads.threads
 
 -- the crash of a dump, by its contents and by what is found in them
 abbrev crash_with : Dump → ContentsValue → DirectoryValue → CauseValue → ThreadsValue → CrashValue

@@ -8,6 +8,7 @@ use Rattle.minidump.specs.declared.Error.{Error}
 use Rattle.minidump.specs.declared.format.MINIDUMP_STREAM_TYPE.TheVariants.{CommentStreamW}
 use Rattle.minidump.specs.Below.Format.StreamType.{number_of}
 use Rattle.minidump.specs.Below.Records.MacCrashInfo.{MacRecords}
+use Rattle.minidump.specs.Exception.{Exception}
 use Rattle.minidump.specs.Promise.{assertion_stream, handle_data_stream, mac_bootargs_stream}
 use Rattle.minidump.specs.Promise.{mac_crash_info_stream, system_info_stream, thread_names_stream}
 use Rattle.crash.specs.declared.contexts.ContextProblem.{ContextProblem}
@@ -51,7 +52,7 @@ counted_damage c directory comments =
     ∷ if_any c.space.regions_outside (damage.Regions c.space.regions_outside)
     ∷ if_any c.space.without_addresses (damage.Modules c.space.without_addresses)
     ∷ texts_damage system_info_stream.stream_type (system_lacking c.system.system)
-    ∷ texts_damage (number_of CommentStreamW) (one_if comments.lacks_partner)
+    ∷ texts_damage (number_of CommentStreamW) (one_if comments.is_wide_damaged)
     ∷ texts_damage handle_data_stream.stream_type (handles_lacking c.process.handles)
     ∷ texts_damage thread_names_stream.stream_type (threads_lacking c.threads.names)
     ∷ texts_damage assertion_stream.stream_type (assertion_lacking c.messages.assertion)
@@ -67,6 +68,16 @@ exception_error (Err error) = Some (damage.Exception error)
 -- the exceptions before the last, whose error is that of the stream
 abbrev pub before_last : List (Result ExceptionValue Error) → List (Result ExceptionValue Error)
 before_last exceptions = take (length exceptions - 1) exceptions
+
+-- how many parameters the record of an exception counts beyond the 15 that it has room for
+abbrev parameters_lacking : Exception → ℕ
+parameters_lacking e = e.raw.exception_record.number_parameters - 15
+
+-- these, where there are any
+abbrev pub parameters_damage : Result Exception Error → Option Damage
+parameters_damage (Ok e) =
+    if_any (parameters_lacking e) (damage.Parameters e.thread_id (parameters_lacking e))
+parameters_damage (Err _) = None
 
 -- the bytes of a context are not in the file
 abbrev pub is_outside : Option ContextProblem → Bool
@@ -88,12 +99,13 @@ context_damage t =
 abbrev pub stack_damage : ThreadValue → Option Damage
 stack_damage t = if t.is_stack_outside then Some (damage.Stack t.id) else None
 
--- all of them: streams, what is told by its number, exceptions, contexts of exceptions, contexts of
--- threads, and stacks
-abbrev pub damage_by : List StreamEntry → List (Option Damage) → List (Result ExceptionValue Error)
-    → List ThreadValue → List Damage
-damage_by streams counted exceptions threads = filter_map stream_damage streams
+-- all of them: streams, what is told by its number, exceptions, their parameters and contexts,
+-- contexts of threads, and stacks
+abbrev pub damage_by : List StreamEntry → List (Option Damage) → List (Result Exception Error)
+    → List (Result ExceptionValue Error) → List ThreadValue → List Damage
+damage_by streams counted records exceptions threads = filter_map stream_damage streams
     ++ (filter_map (λ d. d) counted
     ++ (filter_map exception_error (before_last exceptions)
+    ++ (filter_map parameters_damage records
     ++ (filter_map exception_damage exceptions
-    ++ (filter_map context_damage threads ++ filter_map stack_damage threads))))
+    ++ (filter_map context_damage threads ++ filter_map stack_damage threads)))))

@@ -1,9 +1,9 @@
 -- The texts of a process: what Linux's files say of it, its command line, and the comments of the
 -- dump.
-use Rattle.std.specs.Prelude.{ℕ, ◌*◌, ◌/◌, ◌^◌, ◌==◌, List, bytes_eq, codes, find, length, map, nat_lt}
+use Rattle.std.specs.Prelude.{ℕ, ◌*◌, ◌/◌, ◌%◌, ◌^◌, ◌==◌, ◌&&◌, ◌||◌, not, List, bytes_eq, codes, find, length}
 use Rattle.std.specs.Prelude.{Bool, false, Option, Some, None, Result, if◌then◌else◌, is_none}
-use Rattle.std.specs.Prelude.{string_bytes}
-use Rattle.std.specs.List.{before_first}
+use Rattle.std.specs.Prelude.{map, nat_lt, string_bytes}
+use Rattle.std.specs.List.{before_first, list_all}
 use Rattle.std.specs.Option.{option_and_then, option_map, option_map_or}
 use Rattle.std.specs.Result.{result_ok}
 use Rattle.std.specs.Str.Lossy.{utf8_lossy}
@@ -67,35 +67,47 @@ command_line_in d = option_map command_text (result_ok (raw_stream 0x47670006 d)
 
 -- ---- the comments
 
--- the comments of a dump: that of bytes, and that of UTF-16, and whether a surrogate of that lacks its
--- partner
+-- the comments of a dump: that of bytes, that of UTF-16, and whether the latter is damaged
 pub record CommentsValue : Type 0 where
   pub narrow : Option (List ℕ)
   pub wide : Option (List ℕ)
-  pub lacks_partner : Bool
+  pub is_wide_damaged : Bool
 
 -- the same of `Comments`
 abbrev pub comments_of : Comments → CommentsValue
 comments_of c = record {
   narrow = option_map string_bytes c.narrow;
   wide = option_map string_bytes c.wide;
-  lacks_partner = c.lacks_partner;
+  is_wide_damaged = c.is_wide_damaged;
 }
 
 -- the text of bytes before the first 0, with U+FFFD for what isn't UTF-8
 abbrev pub comment_text : List ℕ → List ℕ
 comment_text bytes = utf8_lossy (before_first (λ b. b == 0) bytes)
 
+-- the code units of bytes
+abbrev units_in : Endian → List ℕ → List ℕ
+units_in order bytes = units_at order 0 (length bytes / 2) bytes
+
 -- the text of UTF-16 before the first 0: none where a surrogate lacks its partner
 abbrev pub wide_text : Endian → List ℕ → Option (List ℕ)
-wide_text order bytes = text_before_nul (units_at order 0 (length bytes / 2) bytes)
+wide_text order bytes = text_before_nul (units_in order bytes)
+
+-- the last of so many bytes is half a code unit, and none of the whole ones before it is 0
+abbrev pub is_cut : ℕ → List ℕ → Bool
+is_cut len units = len % 2 == 1 && list_all (λ u. not (u == 0)) units
+
+-- a text of UTF-16 is damaged: a surrogate lacks its partner, or it is cut
+abbrev pub is_damaged : Endian → List ℕ → Bool
+is_damaged order bytes =
+    is_none (wide_text order bytes) || is_cut (length bytes) (units_in order bytes)
 
 -- the comments of these two streams
 abbrev comments_by : Endian → Option (List ℕ) → Option (List ℕ) → CommentsValue
 comments_by order narrow wide = record {
   narrow = option_map comment_text narrow;
   wide = option_and_then (wide_text order) wide;
-  lacks_partner = option_map_or (λ bytes. is_none (wide_text order bytes)) wide false;
+  is_wide_damaged = option_map_or (is_damaged order) wide false;
 }
 
 -- the comments of the streams CommentStreamA and CommentStreamW

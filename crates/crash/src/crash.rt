@@ -45,8 +45,9 @@ pub struct Crash<'a> {
     /// Its modules.
     pub modules: CrashModules,
     /// What is there and can't be read: streams, ascending by type, then what is told by its number
-    /// (entries of the directory, regions of memory, modules, texts and records), exceptions,
-    /// contexts of exceptions, own contexts of threads, and stacks, each in the order of its list.
+    /// (entries of the directory, regions of memory, modules, texts and records), exceptions, their
+    /// parameters, their contexts, own contexts of threads, and stacks, each in the order of its
+    /// list.
     pub damage: Vec<Damage>,
 }
 
@@ -226,6 +227,7 @@ fn damage_in(
         alloc,
         directory.entries.as_slice(),
         &counted,
+        contents.threads.exceptions.as_slice(),
         cause.exceptions.as_slice(),
         threads.threads.as_slice(),
     )?)

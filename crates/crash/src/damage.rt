@@ -1,11 +1,12 @@
 ghost use Rattle.std.specs.Prelude.{◌≡◌, ◌-◌, IfOk, IsOkUnless, length, map, take};
 ghost use Rattle.minidump.specs.Below.Contexts.Context.{map_ok};
-ghost use Rattle.minidump.specs.Promise.{mac_crash_info_stream};
+ghost use Rattle.minidump.specs.Promise.{exception_stream, mac_crash_info_stream};
 ghost use Rattle.crash.specs.Cause.{exception_of};
 ghost use Rattle.crash.specs.Contents.{contents_of};
 ghost use Rattle.crash.specs.Damage.{context_damage, counted_damage, damage_by, exception_damage};
-ghost use Rattle.crash.specs.Damage.{exception_error, if_any, is_outside, records_damage};
-ghost use Rattle.crash.specs.Damage.{records_lacking, stack_damage, stream_damage, texts_damage};
+ghost use Rattle.crash.specs.Damage.{exception_error, if_any, is_outside, parameters_damage};
+ghost use Rattle.crash.specs.Damage.{records_damage, records_lacking, stack_damage};
+ghost use Rattle.crash.specs.Damage.{stream_damage, texts_damage};
 ghost use Rattle.crash.specs.Directory.{directory_of};
 ghost use Rattle.crash.specs.ProcessTexts.{comments_of};
 ghost use Rattle.crash.specs.Threads.{thread_value};
@@ -21,8 +22,8 @@ use crate::texts::{
 use crate::threads::CrashThread;
 use minidump::format::MINIDUMP_STREAM_TYPE;
 use minidump::{
-    Error, MinidumpAssertion, MinidumpHandleDataStream, MinidumpMacBootargs, MinidumpMacCrashInfo,
-    MinidumpStream, MinidumpSystemInfo, MinidumpThreadNames,
+    Error, MinidumpAssertion, MinidumpException, MinidumpHandleDataStream, MinidumpMacBootargs,
+    MinidumpMacCrashInfo, MinidumpStream, MinidumpSystemInfo, MinidumpThreadNames,
 };
 use std::alloc::{AllocError, Global};
 
@@ -38,8 +39,8 @@ pub enum Damage {
         /// Why it can't be read.
         error: Error,
     },
-    /// Entries of the directory whose bytes are not all in the file, of types whose stream, which
-    /// another entry decides, has its bytes. Exceptions don't count: each is told by itself.
+    /// Entries of the directory whose bytes are not all in the file, where the entry that decides their
+    /// type has its bytes there. Exceptions don't count: each is told by itself.
     Entries {
         /// How many there are.
         count: u64,
@@ -60,7 +61,8 @@ pub enum Damage {
     /// UTF-16 lacks its partner. They are the text of the service pack (SystemInfoStream), the comment
     /// of CommentStreamW, the names of handles, of their types and of threads, the texts of an
     /// assertion, and the arguments of macOS's boot. Such a text is absent; a thread may have an earlier
-    /// name.
+    /// name. A comment of CommentStreamW counts, too, if its last byte is half a code unit, with no 0 before
+    /// it: the text up to that byte is there.
     Texts {
         /// The number of the stream's type.
         number: u32,
@@ -81,6 +83,14 @@ pub enum Damage {
         /// Why it can't be read.
         error: Error,
     },
+    /// Parameters that the record of an exception counts and has no room for: those beyond the 15. Each
+    /// exception that can be read counts, also one that tells of no crash.
+    Parameters {
+        /// The id of the thread on which the exception happened.
+        thread: u32,
+        /// How many there are.
+        count: u64,
+    },
     /// The context of an exception on a thread, whose bytes are not all in the file. Each exception
     /// that can be read counts, also one that tells of no crash.
     ExceptionContext {
@@ -99,16 +109,18 @@ pub enum Damage {
     },
 }
 
-// Returns what can't be read: streams, what is told by its number, exceptions, contexts of exceptions,
-// contexts of threads and stacks.
+// Returns what can't be read: streams, what is told by its number, exceptions, their parameters and
+// contexts, contexts of threads and stacks.
 pub(crate) fn damage_of(
     alloc: Global,
     streams: &[StreamEntry],
     counted: &[Option<Damage>],
+    records: &[Result<MinidumpException<'_>, Error>],
     exceptions: &[Result<CrashException, Error>],
     threads: &[CrashThread],
 ) -> Result<Vec<Damage>, AllocError>
     ensures { IfOk result (λ damage. damage.items ≡ damage_by streams.now counted.now
+        (map (map_ok exception_stream.value) records.now)
         (map (map_ok exception_of) exceptions.now) (map thread_value threads.now)) }
 {
     let before = before_last(exceptions);
@@ -117,6 +129,7 @@ pub(crate) fn damage_of(
         .filter_map(|each| stream_damage(each))
         .chain(counted.iter().filter_map(|each| *each))
         .chain(before.iter().filter_map(|each| exception_error(each)))
+        .chain(records.iter().filter_map(|each| parameters_damage(each)))
         .chain(exceptions.iter().filter_map(|each| exception_damage(each)))
         .chain(threads.iter().filter_map(|each| context_damage(each)))
         .chain(threads.iter().filter_map(|each| stack_damage(each)))
@@ -159,7 +172,7 @@ pub(crate) fn counted_damage(
     let regions = contents.space.regions_outside;
     let modules = contents.space.modules.entries_without_addresses();
     let system = system_lacking(&contents.system.system);
-    let comment = u64::from(comments.lacks_partner);
+    let comment = u64::from(comments.is_wide_damaged);
     let handles = handles_lacking(&contents.process.handles);
     let threads = threads_lacking(&contents.threads.names);
     let assertion = assertion_lacking(alloc, &contents.messages.assertion)?;
@@ -218,6 +231,20 @@ fn exception_error(exception: &Result<CrashException, Error>) -> Option<Damage>
         Ok(_) => None,
         Err(error) => Some(Damage::Exception { error: *error }),
     }
+}
+
+// Returns the parameters that the record of an exception counts and has no room for, if there are any.
+fn parameters_damage(exception: &Result<MinidumpException<'_>, Error>) -> Option<Damage>
+    ensures { result ≡ parameters_damage (map_ok exception_stream.value exception.now) }
+{
+    let exception = exception.as_ref().ok()?;
+    let count = exception
+        .raw
+        .exception_record
+        .number_parameters
+        .saturating_sub(15) as u64;
+    let thread = exception.thread_id;
+    if_any(count, Damage::Parameters { thread, count })
 }
 
 // Returns the context of an exception if it is outside the file.

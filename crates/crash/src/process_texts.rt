@@ -1,7 +1,7 @@
 //! The texts of a process: what Linux's files say of it, its command line, and the comments of the
 //! dump.
-ghost use Rattle.std.specs.Prelude.{◌≡◌, ◌/◌, ◌==◌, IfOk, length, string_bytes};
-ghost use Rattle.std.specs.List.{before_first, position};
+ghost use Rattle.std.specs.Prelude.{◌≡◌, ◌/◌, ◌==◌, IfOk, length, not, string_bytes};
+ghost use Rattle.std.specs.List.{before_first, list_all, position};
 ghost use Rattle.std.specs.Option.{option_map};
 ghost use Rattle.minidump.specs.Below.Bytes.LinuxOsStr.{text_of};
 ghost use Rattle.minidump.specs.Below.Bytes.Text16.{units_at};
@@ -9,8 +9,9 @@ ghost use Rattle.minidump.specs.Below.Contexts.Context.{map_ok};
 ghost use Rattle.minidump.specs.DumpValue.{dump_of};
 ghost use Rattle.minidump.specs.Promise.{linux_cpu_info_stream, linux_proc_status_stream};
 ghost use Rattle.crash.specs.ProcessTexts.{bytes_of_kb, command_line_in, command_text, comment_text};
-ghost use Rattle.crash.specs.ProcessTexts.{comments_in, comments_of, cpu_text, size_of_text, spaced};
-ghost use Rattle.crash.specs.ProcessTexts.{status_number, status_size, value_in, value_of, wide_text};
+ghost use Rattle.crash.specs.ProcessTexts.{comments_in, comments_of, cpu_text, is_cut, is_damaged};
+ghost use Rattle.crash.specs.ProcessTexts.{size_of_text, spaced, status_number, status_size};
+ghost use Rattle.crash.specs.ProcessTexts.{value_in, value_of, wide_text};
 
 use minidump::format::MINIDUMP_STREAM_TYPE;
 use minidump::own_streams::text_before_nul;
@@ -28,11 +29,12 @@ pub struct Comments {
     /// The text of the stream CommentStreamA before its first 0, with U+FFFD for what isn't UTF-8;
     /// `None` if its bytes can't be read.
     pub narrow: Option<String>,
-    /// The text of the stream CommentStreamW before its first 0, `None` if its bytes can't be read,
-    /// or a surrogate lacks its partner.
+    /// The text of the stream CommentStreamW before its first 0, or up to a last byte that is half a
+    /// code unit; `None` if its bytes can't be read, or a surrogate lacks its partner.
     pub wide: Option<String>,
-    /// Whether the bytes of CommentStreamW can be read, but a surrogate lacks its partner.
-    pub lacks_partner: bool,
+    /// Whether the bytes of CommentStreamW can be read, but not all of its text: a surrogate lacks its
+    /// partner, or the last byte is half a code unit, with no 0 before it.
+    pub is_wide_damaged: bool,
 }
 
 // ---- Linux's files
@@ -156,11 +158,11 @@ pub(crate) fn comments_of(alloc: Global, dump: &Minidump<'_>) -> Result<Comments
     ensures { IfOk result (λ comments. comments_of comments ≡ comments_in (dump_of dump.now)) }
 {
     let narrow = narrow_comment(alloc, dump)?;
-    let (wide, lacks_partner) = wide_comment(alloc, dump)?;
+    let (wide, is_wide_damaged) = wide_comment(alloc, dump)?;
     Ok(Comments {
         narrow,
         wide,
-        lacks_partner,
+        is_wide_damaged,
     })
 }
 
@@ -199,29 +201,47 @@ fn first_nul(bytes: &[u8]) -> Option<usize>
     bytes.iter().position(|byte| *byte == 0)
 }
 
-// Makes the comment in UTF-16, and tells whether a surrogate of it lacks its partner.
+// Makes the comment in UTF-16, and tells whether it is damaged.
 fn wide_comment(alloc: Global, dump: &Minidump<'_>) -> Result<(Option<String>, bool), AllocError>
     ensures text { IfOk result (λ found. option_map string_bytes found.0
         ≡ (comments_in (dump_of dump.now)).wide) }
-    ensures lacks { IfOk result (λ found. found.1
-        ≡ (comments_in (dump_of dump.now)).lacks_partner) }
+    ensures damaged { IfOk result (λ found. found.1
+        ≡ (comments_in (dump_of dump.now)).is_wide_damaged) }
 {
     match dump.get_raw_stream(MINIDUMP_STREAM_TYPE::CommentStreamW.number()) {
-        Ok(bytes) => {
-            let text = wide_text(alloc, bytes, dump.endian)?;
-            let lacks_partner = text.is_none();
-            Ok((text, lacks_partner))
-        }
+        Ok(bytes) => wide_text(alloc, bytes, dump.endian),
         Err(_) => Ok((None, false)),
     }
 }
 
-// Makes the text of UTF-16 before the first 0.
-fn wide_text(alloc: Global, bytes: &[u8], endian: Endian) -> Result<Option<String>, AllocError>
-    ensures { IfOk result (λ text. option_map string_bytes text ≡ wide_text endian bytes.now) }
+// Makes the text of UTF-16 before the first 0, and tells whether it is damaged.
+fn wide_text(
+    alloc: Global,
+    bytes: &[u8],
+    endian: Endian,
+) -> Result<(Option<String>, bool), AllocError>
+    ensures text { IfOk result
+        (λ found. option_map string_bytes found.0 ≡ wide_text endian bytes.now) }
+    ensures damaged { IfOk result (λ found. found.1 ≡ is_damaged endian bytes.now) }
 {
     let units = units_of(alloc, bytes, endian)?;
-    text_before_nul(alloc, units.as_slice())
+    let text = text_before_nul(alloc, units.as_slice())?;
+    let is_damaged = text.is_none() || is_cut(bytes.len(), units.as_slice());
+    Ok((text, is_damaged))
+}
+
+// Tells whether the last of so many bytes is half a code unit, and no whole one is 0.
+fn is_cut(len: usize, units: &[u16]) -> bool
+    ensures { result ≡ is_cut len units.now }
+{
+    len % 2 == 1 && none_is_0(units)
+}
+
+// Tells whether no code unit is 0.
+fn none_is_0(units: &[u16]) -> bool
+    ensures { result ≡ list_all (λ u. not (u == 0)) units.now }
+{
+    units.iter().all(|unit| *unit != 0)
 }
 
 // Returns the code units of bytes.

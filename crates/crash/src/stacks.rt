@@ -1,14 +1,11 @@
-ghost use Rattle.std.specs.Prelude.{◌≡◌, Some};
-ghost use Rattle.std.specs.Option.{option_map};
-ghost use Rattle.minidump.specs.Below.MemoryLists.Unified.{unified_list, unified_region};
+ghost use Rattle.std.specs.Prelude.{◌≡◌};
 ghost use Rattle.minidump.specs.Thread.{thread_of};
-ghost use Rattle.minidump.specs.ThreadText.{stack_of};
 ghost use Rattle.crash.specs.Contents.{contents_of};
 ghost use Rattle.crash.specs.Stacks.{is_outside, named_stack, stack_memory};
 
 use crate::contents::Contents;
+use minidump::MinidumpThread;
 use minidump::format::MINIDUMP_MEMORY_DESCRIPTOR;
-use minidump::{MinidumpThread, UnifiedMemory, UnifiedMemoryList, laws};
 
 /// A range of addresses.
 #[derive(Clone, Copy, PartialEq, Eq)]
@@ -39,23 +36,11 @@ pub(crate) fn stack_memory<'a>(
 ) -> Option<StackRange>
     ensures { result ≡ stack_memory (contents_of contents.now) (thread_of thread.now) }
 {
-    let region = region_of(&contents.space.memory, thread)?;
+    let region = thread.stack_memory(&contents.space.memory)?;
     Some(StackRange {
         base: region.base_address(),
         size: region.size(),
     })
-}
-
-// Returns the region of memory that has a stack.
-fn region_of<'l, 'a>(
-    memory: &'l UnifiedMemoryList<'a>,
-    thread: &'l MinidumpThread<'a>,
-) -> Option<UnifiedMemory<'l, 'a>>
-    ensures { option_map unified_region result
-        ≡ stack_of (Some (unified_list memory.now)) (thread_of thread.now) }
-{
-    laws::a_report_has_what_a_lookup_returns();
-    thread.stack_memory(memory)
 }
 
 // Tells whether a thread names bytes of a stack that are not in the file.

@@ -4,8 +4,7 @@ ghost use Rattle.std.specs.Option.{option_copied, option_map};
 ghost use Rattle.minidump.specs.Below.Contexts.Context.{map_ok};
 ghost use Rattle.minidump.specs.Promise.{thread_list_stream, thread_names_stream};
 ghost use Rattle.minidump.specs.Below.MemoryLists.Unified.{unified_list};
-ghost use Rattle.minidump.specs.Crash.{error_in};
-ghost use Rattle.minidump.specs.Thread.{last_error_address, thread_of};
+ghost use Rattle.minidump.specs.Thread.{thread_of};
 ghost use Rattle.crash.specs.Contents.{contents_of};
 ghost use Rattle.crash.specs.Threads.{entries_in, error_on, last_error_code, last_error_in, name_in};
 
@@ -13,7 +12,7 @@ use crate::contents::Contents;
 use minidump::system_info::{Cpu, Os};
 use minidump::{
     CodeNames, CrashReason, Error, MinidumpThread, MinidumpThreadList, MinidumpThreadNames,
-    UnifiedMemoryList, laws,
+    UnifiedMemoryList,
 };
 use std::alloc::Global;
 
@@ -80,21 +79,7 @@ fn error_on<'a>(
     ensures { result ≡ error_on os cpu names.now (unified_list memory.now) (thread_of thread.now) }
 {
     match os {
-        Os::Windows => error_by(cpu, memory, names, thread),
+        Os::Windows => thread.last_error(cpu, memory, names),
         _ => None,
     }
-}
-
-// Returns the last error of a thread of Windows by the width of a pointer, with this memory.
-fn error_by<'a>(
-    cpu: Cpu,
-    memory: &UnifiedMemoryList<'a>,
-    names: &CodeNames<'_>,
-    thread: &MinidumpThread<'a>,
-) -> Option<CrashReason>
-    ensures { result ≡ error_in names.now (unified_list memory.now)
-        (last_error_address cpu (thread_of thread.now).raw.teb) }
-{
-    laws::a_report_has_what_a_lookup_returns();
-    thread.last_error(cpu, memory, names)
 }

@@ -1,7 +1,6 @@
 ghost use Rattle.std.specs.Prelude.{◌≡◌, ◌==◌, ◌++◌, IfOk, IsOkUnless, OnOk, map};
 ghost use Rattle.std.specs.Option.{option_copied, option_map};
 ghost use Rattle.minidump.specs.Below.Contexts.Context.{map_ok};
-ghost use Rattle.minidump.specs.Crash.{last_with};
 ghost use Rattle.minidump.specs.Promise.{exception_stream, thread_list_stream};
 ghost use Rattle.minidump.specs.Thread.{thread_of};
 ghost use Rattle.crash.specs.Contents.{contents_of};
@@ -193,20 +192,12 @@ fn has_thread(threads: &Result<MinidumpThreadList<'_>, Error>, id: u32) -> bool
     ensures { result ≡ has_thread id (map_ok thread_list_stream.value threads.now) }
 {
     match threads {
-        Ok(list) => match last_with(list, id) {
+        Ok(list) => match list.get_thread(id) {
             Some(_) => true,
             None => false,
         },
         Err(_) => false,
     }
-}
-
-// Returns the last thread of an id.
-fn last_with<'l, 'a>(list: &'l MinidumpThreadList<'a>, id: u32) -> Option<&'l MinidumpThread<'a>>
-    ensures { option_map thread_of (option_copied result)
-        ≡ last_with id (thread_list_stream.value list.now) }
-{
-    list.get_thread(id)
 }
 
 // Returns the thread of an exception, which the list lacks.

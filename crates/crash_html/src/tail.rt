@@ -224,6 +224,7 @@ function damageWords(damage) {
     case "texts": return "texts of " + streamName(part(damage, "number")) + ": " + counted(part(damage, "count"));
     case "records": return "records of " + streamName(part(damage, "number")) + ": " + counted(part(damage, "count"));
     case "exception": return joined(["an exception before the last", error], ": ");
+    case "parameters": return "parameters of the exception on thread " + thread + ": " + counted(part(damage, "count"));
     case "exception_context": return joined(["the context of the exception on thread " + thread + ", outside the file", error], ": ");
     case "thread_context": return joined(["the context of thread " + thread + ", outside the file", error], ": ");
     case "stack": return joined(["the stack of thread " + thread + ", outside the file", error], ": ");

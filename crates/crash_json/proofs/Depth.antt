@@ -20,7 +20,7 @@ use Rattle.minidump.specs.Below.Records.Record.{MacRecord}
 use Rattle.crash.specs.declared.addresses.AddressFacts.{AddressFacts}
 use Rattle.crash.specs.declared.addresses.AddressMemory.{AddressMemory}
 use Rattle.crash.specs.declared.damage.Damage.{Damage}
-use Rattle.crash.specs.declared.damage.Damage.TheVariants.{Entries, Exception, ExceptionContext, Modules, Records, Regions, Stack, Stream, Texts, ThreadContext}
+use Rattle.crash.specs.declared.damage.Damage.TheVariants.{Entries, Exception, ExceptionContext, Modules, Parameters, Records, Regions, Stack, Stream, Texts, ThreadContext}
 use Rattle.crash.specs.declared.directory.StreamEntry.{StreamEntry}
 use Rattle.crash.specs.declared.contexts.ShortContext.{ShortContext}
 use Rattle.crash.specs.declared.point.StackWord.{StackWord}
@@ -227,6 +227,7 @@ damage_depth (Modules n) = omega arith
 damage_depth (Texts number n) = omega arith
 damage_depth (Records number n) = omega arith
 damage_depth (Exception error) = omega arith
+damage_depth (Parameters id n) = omega arith
 damage_depth (ExceptionContext id) = omega arith
 damage_depth (ThreadContext id) = omega arith
 damage_depth (Stack id) = omega arith

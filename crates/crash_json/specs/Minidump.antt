@@ -9,8 +9,8 @@ use Rattle.minidump.specs.Below.Format.StreamType.{stream_type_of, type_name}
 use Rattle.minidump.specs.Below.MemoryLists.Unified.{UnifiedRegion, unified_regions}
 use Rattle.crash.specs.declared.damage.Damage.{Damage}
 use Rattle.crash.specs.declared.damage.Damage.TheVariants.{Entries, Exception, ExceptionContext, Modules}
-use Rattle.crash.specs.declared.damage.Damage.TheVariants.{Records, Regions, Stack, Stream, Texts}
-use Rattle.crash.specs.declared.damage.Damage.TheVariants.{ThreadContext}
+use Rattle.crash.specs.declared.damage.Damage.TheVariants.{Parameters, Records, Regions, Stack, Stream}
+use Rattle.crash.specs.declared.damage.Damage.TheVariants.{Texts, ThreadContext}
 use Rattle.crash.specs.declared.directory.StreamEntry.{StreamEntry}
 use Rattle.crash.specs.Crash.{CrashValue, status_of}
 use Rattle.crash_json.specs.Tree.{array_of, count, hex_string, object_of, or_null}
@@ -67,6 +67,7 @@ damage_json (Texts number n) = damage_object (codes "texts") (Some number) (Some
 damage_json (Records number n) = damage_object (codes "records") (Some number) (Some n) None None
 damage_json (Exception error) =
     damage_object (codes "exception") None None None (Some (name_of_error error))
+damage_json (Parameters id n) = damage_object (codes "parameters") None (Some n) (Some id) None
 damage_json (ExceptionContext id) =
     damage_object (codes "exception_context") None None (Some id) None
 damage_json (ThreadContext id) = damage_object (codes "thread_context") None None (Some id) None

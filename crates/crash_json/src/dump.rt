@@ -266,6 +266,15 @@ impl ToJson for Damage {
             Damage::Exception { error } => {
                 put_damage(out, alloc, "exception", None, None, None, Some(error))
             }
+            Damage::Parameters { thread, count } => put_damage(
+                out,
+                alloc,
+                "parameters",
+                None,
+                Some(count),
+                Some(thread),
+                None,
+            ),
             Damage::ExceptionContext { thread } => {
                 put_damage(
                     out,

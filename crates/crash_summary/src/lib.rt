@@ -12,19 +12,17 @@
 //! [`summarise`]. The proofs use the contracts and the laws of `minidump`, and nothing below.
 #![tactic(auto)]
 
-ghost use Rattle.std.specs.Prelude.{◌≡◌, IfOk, IsOkUnless, Some, string_bytes};
+ghost use Rattle.std.specs.Prelude.{◌≡◌, IfOk, IsOkUnless, string_bytes};
 ghost use Rattle.std.specs.Option.{option_copied, option_map};
 ghost use Rattle.minidump.specs.Below.Format.Answer.{Gives};
-ghost use Rattle.minidump.specs.Below.MemoryLists.Unified.{unified_list, unified_region};
+ghost use Rattle.minidump.specs.Below.MemoryLists.Unified.{unified_list};
 ghost use Rattle.minidump.specs.Below.Reasons.ReasonText.{reason_text};
-ghost use Rattle.minidump.specs.Crash.{last_with};
 ghost use Rattle.minidump.specs.Dump.{HasEntries, dump_system};
 ghost use Rattle.minidump.specs.DumpValue.{dump_of};
 ghost use Rattle.minidump.specs.Below.Modules.ModuleList.{module_list_of};
 ghost use Rattle.minidump.specs.Promise.{exception_stream, system_info_stream};
 ghost use Rattle.minidump.specs.Promise.{thread_list_stream};
 ghost use Rattle.minidump.specs.Thread.{thread_of};
-ghost use Rattle.minidump.specs.ThreadText.{stack_of};
 ghost use Rattle.crash_summary.specs.Summary.{address_in, crash_context, crash_pointer, loaded_of};
 ghost use Rattle.crash_summary.specs.Summary.{memory_in, module_at, modules_in, reason_in, stack_in};
 ghost use Rattle.crash_summary.specs.Summary.{summary_at, summary_in, summary_of, threads_in};
@@ -34,7 +32,7 @@ pub mod laws;
 use minidump::{
     CodeNames, CrashReason, Error, Minidump, MinidumpContext, MinidumpException,
     MinidumpModuleList, MinidumpSystemInfo, MinidumpThread, MinidumpThreadList, Module, Told,
-    UnifiedMemory, UnifiedMemoryList,
+    UnifiedMemoryList,
 };
 use std::alloc::Global;
 
@@ -103,7 +101,7 @@ fn summary_at<'a>(
     let system = system_of(alloc, dump)?;
     let system = system.as_ref();
     let threads = threads_of(alloc, dump)?;
-    let thread = last_with(&threads, exception.thread_id);
+    let thread = threads.get_thread(exception.thread_id);
     let modules = modules_of(alloc, dump)?;
     let pointer = crash_pointer(system, exception, thread);
     let memory = memory_of(alloc, dump)?;
@@ -161,14 +159,6 @@ fn memory_of<'a>(alloc: Global, dump: &Minidump<'a>) -> Result<UnifiedMemoryList
         Some(memory) => Ok(memory),
         None => Ok(UnifiedMemoryList::new(alloc)),
     }
-}
-
-// Returns the last thread with an id.
-fn last_with<'l, 'a>(list: &'l MinidumpThreadList<'a>, id: u32) -> Option<&'l MinidumpThread<'a>>
-    ensures { option_map thread_of (option_copied result)
-        ≡ last_with id (thread_list_stream.value list.now) }
-{
-    list.get_thread(id)
 }
 
 // Returns the context of a crash: the exception's, if it is accepted, else that of the thread.
@@ -275,22 +265,9 @@ fn stack_of<'a>(
     ensures { result ≡ stack_in (unified_list memory.now)
         (option_map thread_of (option_copied thread.entry)) }
 {
-    let region = region_of(thread?, memory)?;
+    let region = thread?.stack_memory(memory)?;
     Some(StackHit {
         base: region.base_address(),
         size: region.size(),
     })
-}
-
-// Returns the region of memory that has the stack of a thread: its own, else the one in which it
-// begins.
-fn region_of<'l, 'a>(
-    thread: &'l MinidumpThread<'a>,
-    memory: &'l UnifiedMemoryList<'a>,
-) -> Option<UnifiedMemory<'l, 'a>>
-    ensures { option_map unified_region result
-        ≡ stack_of (Some (unified_list memory.now)) (thread_of thread.now) }
-{
-    minidump::laws::a_report_has_what_a_lookup_returns();
-    thread.stack_memory(memory)
 }

@@ -46,5 +46,5 @@ mod wanted;
 pub use backtraces::{Backtrace, Backtraces, Symbolized};
 pub use modules::{is_of_module, symbol_path};
 pub use names::{FrameFunction, InlinedCall, NamedFrame, SourceLine};
-pub use shown::{ShownFrame, ShownWalk, shown_walk};
+pub use shown::{ShownFrame, ShownWalk, first_of, shown_walk};
 pub use symbols::{SymbolState, Symbols};

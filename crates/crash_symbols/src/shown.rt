@@ -56,8 +56,11 @@ impl<'s, 'l> ShownWalk<'s, 'l> {
     }
 }
 
-// Returns the first of frames, at most so many.
-fn first_of<'f, 's, 'l>(frames: &'f [ShownFrame<'s, 'l>], count: usize) -> &'f [ShownFrame<'s, 'l>]
+/// Returns the first of frames, at most `count`.
+pub fn first_of<'f, 's, 'l>(
+    frames: &'f [ShownFrame<'s, 'l>],
+    count: usize,
+) -> &'f [ShownFrame<'s, 'l>]
     ensures { result.now ≡ take count frames.now }
 {
     if count < frames.len() {

@@ -8,8 +8,8 @@ use Rattle.minidump.specs.Below.Format.Error.{name_of_error}
 use Rattle.minidump.specs.Below.Format.StreamType.{stream_type_of, type_name}
 use Rattle.crash.specs.declared.damage.Damage.{Damage}
 use Rattle.crash.specs.declared.damage.Damage.TheVariants.{Entries, Exception, ExceptionContext, Modules}
-use Rattle.crash.specs.declared.damage.Damage.TheVariants.{Records, Regions, Stack, Stream, Texts}
-use Rattle.crash.specs.declared.damage.Damage.TheVariants.{ThreadContext}
+use Rattle.crash.specs.declared.damage.Damage.TheVariants.{Parameters, Records, Regions, Stack, Stream}
+use Rattle.crash.specs.declared.damage.Damage.TheVariants.{Texts, ThreadContext}
 use Rattle.crash.specs.declared.unreadable_modules.ModulePart.{ModulePart}
 use Rattle.crash.specs.declared.unreadable_modules.ModulePart.TheVariants.{CodeView, Name}
 use Rattle.crash.specs.declared.unreadable_modules.UnreadableModule.{UnreadableModule}
@@ -48,6 +48,8 @@ damage_row (Records number count) =
     count_row (codes "can't be read: records of ") (stream_text number) count
 damage_row (Exception error) =
     stream_row (codes "an exception before the last") (name_of_error error)
+damage_row (Parameters thread count) = count_row (codes "can't be read: ")
+    (id_text (codes "parameters of the exception on thread ") thread) count
 damage_row (ExceptionContext thread) =
     id_text (codes "outside the file: the context of the exception on thread ") thread
 damage_row (ThreadContext thread) =

@@ -5,7 +5,7 @@ ghost use Rattle.crash_text.specs.Damage.{stream_text};
 ghost use Rattle.crash_text.specs.Lines.{Adds};
 
 use crate::lines::{Added, Line, push_each, push_line};
-use crate::words::push_id;
+use crate::words::{id_text, push_id};
 use crash::{Crash, Damage, ModulePart, UnreadableModule};
 use minidump::format::MINIDUMP_STREAM_TYPE;
 use minidump::text::Piece::{Decimal, Hex, Words};
@@ -62,6 +62,11 @@ impl Line for Damage {
                 "an exception before the last",
                 error.name(),
             ),
+            Damage::Parameters { thread, count } => {
+                let words = "parameters of the exception on thread ";
+                let parameters = id_text(*out.allocator(), words, thread)?;
+                push_number(out, "can't be read: ", parameters.as_str(), count)
+            }
             Damage::ExceptionContext { thread } => push_id(
                 out,
                 "outside the file: the context of the exception on thread ",

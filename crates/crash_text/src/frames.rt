@@ -1,4 +1,4 @@
-ghost use Rattle.std.specs.Prelude.{◌≡◌, [], ◌∷◌, ◌++◌, IfOk, OnOk, map, take};
+ghost use Rattle.std.specs.Prelude.{◌≡◌, [], ◌∷◌, ◌++◌, IfOk, OnOk, map};
 ghost use Rattle.crash.specs.Modules.{loaded_of};
 ghost use Rattle.crash_symbols.specs.Shown.{shown_frame_of, shown_of};
 ghost use Rattle.crash_text.specs.Frames.{candidate_lines, each_entry, end_text, entry_line};
@@ -13,7 +13,7 @@ use crate::lines::{Added, push_line};
 use crate::page::Page;
 use crate::words::place_text;
 use crash::{CrashFrame, CrashModule};
-use crash_symbols::{ShownFrame, ShownWalk};
+use crash_symbols::{ShownFrame, ShownWalk, first_of};
 use minidump::text::Piece::{Decimal, Hex, Words};
 use stack_walk::WalkEnd;
 use std::alloc::{AllocError, Global};
@@ -75,17 +75,6 @@ pub(crate) fn push_frames_of(
         frames.push(shown.frame)?;
     }
     Ok(())
-}
-
-// Returns the first frames, at most so many.
-fn first_of<'f, 's, 'l>(frames: &'f [ShownFrame<'s, 'l>], count: usize) -> &'f [ShownFrame<'s, 'l>]
-    ensures { result.now ≡ take count frames.now }
-{
-    if count < frames.len() {
-        &frames[..count]
-    } else {
-        frames
-    }
 }
 
 // Appends the lines of frames and calls, each with its number.

@@ -1,33 +1,23 @@
--- Lemmas on the last error of a thread.
+-- The last error of a thread, and the last item of a list that passes a test.
 use Rattle.std.specs.Prelude.{◌≡◌, ℕ, Bool, true, false, List, [], ◌∷◌, map, find, reverse, Option, Some, None}
-use Rattle.std.proofs.Common.{refl, ◌∙◌, ap, cond}
+use Rattle.std.proofs.Common.{refl, cond}
 use Rattle.std.proofs.lemmas.List.{reverse-append}
 use Rattle.std.specs.Option.{option_and_then, option_map, option_or}
 use Rattle.std.proofs.lemmas.List.Folds.{find-append}
-use Rattle.minidump_memory.specs.Memory.{range_of_region}
-use Rattle.minidump_memory.specs.Unified.{UnifiedRegions, unified_regions}
+use Rattle.minidump_memory.specs.Unified.{UnifiedRegions}
 use Rattle.minidump_reason.specs.declared.reason.CrashReason.{CrashReason}
 use Rattle.minidump_reason.specs.Names.{Lists}
 use Rattle.minidump_system.specs.declared.cpu.Cpu.{Cpu}
-use Rattle.minidump_index.proofs.RegionLaws.{is_looked_up}
 use Rattle.minidump.specs.Crash.{error_in, last_with}
-use Rattle.minidump.specs.Thread.{IsErrorIn, Thread, error_at, last_error_address}
-
--- the error at an address is one
-one_error : (names : Lists) (memory : UnifiedRegions) (address : Option ℕ) (found : Option CrashReason) → IsErrorIn names memory address found
-    → found ≡ error_in names memory address
-one_error names memory None found is = is
-one_error names memory (Some address) found (region, looks, is) =
-    is ∙ ap (λ r. error_at names address r) (is_looked_up range_of_region (unified_regions memory) address region looks)
+use Rattle.minidump.specs.Thread.{Thread, last_error_address}
 
 -- the last error of the last thread of an id
 pub thread_error : (names : Lists) (cpu : Cpu) (id : ℕ) (lists : Option (List Thread)) (memories : Option UnifiedRegions)
     (list : List Thread) (thread : Thread) (memory : UnifiedRegions) (found : Option CrashReason)
-    → lists ≡ Some list → last_with id list ≡ Some thread → memories ≡ Some memory → IsErrorIn names memory (last_error_address cpu thread.raw.teb) found
+    → lists ≡ Some list → last_with id list ≡ Some thread → memories ≡ Some memory → found ≡ error_in names memory (last_error_address cpu thread.raw.teb)
     → found ≡ option_and_then (λ threads. option_and_then (λ t. option_and_then (λ m. error_in names m (last_error_address cpu t.raw.teb)) memories)
     (last_with id threads)) lists
-thread_error names cpu id lists memories list thread memory found listed last held is =
-    rw (listed, last, held) (one_error names memory (last_error_address cpu thread.raw.teb) found is)
+thread_error names cpu id lists memories list thread memory found listed last held is = rw (listed, last, held) is
 
 module _ {A B : Type 0} (f : A → B) (p : B → Bool) where
   either : (o : Option A) (found : Option B) (b : Bool) (x : A) → option_map f o ≡ found

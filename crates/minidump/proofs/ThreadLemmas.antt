@@ -2,7 +2,7 @@
 use Rattle.std.proofs.Common.{◌≡◌, ◌≢◌, ℕ, Bool, true, false, cond, List, [], ◌∷◌, ◌++◌, length, map, reverse, Ok, Option, Some, None, refl, ap, sym, ◌∙◌}
 use Rattle.std.proofs.Common.{arith}
 use Rattle.std.specs.Prelude.{find, ◌==◌, All, ◌↔◌}
-use Rattle.std.specs.Option.{option_map, option_or}
+use Rattle.std.specs.Option.{option_or}
 use Rattle.std.proofs.lemmas.Bool.{eqb-true, ne_eqb, eq-eqb}
 use Rattle.std.proofs.lemmas.List.{length-map, reverse-append}
 use Rattle.std.proofs.lemmas.List.Elements.{All-cons, All-head, All-tail}
@@ -11,8 +11,7 @@ use Rattle.minidump_bytes.specs.declared.endian.Endian.{Endian}
 use Rattle.minidump_format.specs.declared.format.thread.MINIDUMP_THREAD.{MINIDUMP_THREAD}
 use Rattle.minidump_system.specs.Reads.{all_kept}
 use Rattle.minidump_system.proofs.KeptLemmas.{kept_mapped}
-use Rattle.minidump.specs.declared.thread.MinidumpThread.{MinidumpThread}
-use Rattle.minidump.specs.Thread.{IsLastThread, Thread, thread_at, thread_of}
+use Rattle.minidump.specs.Thread.{IsLastThread, Thread, thread_at}
 
 module _ {X : Type 0} (p : X → Bool) where
   -- it is in the rest, or it is the first
@@ -88,22 +87,6 @@ found_is_last id (x ∷ xs) =
         → IsLastThread id (x ∷ xs) (option_or found (cond (x.raw.thread_id == id) (Some x) None))
     go (Some t) rest = earlier_too id x xs t rest
     go None others = first_or_none id x xs (x.raw.thread_id == id) refl others
-
--- a search from the end finds the same among threads as values
-pub found_as_value : (id : ℕ) (threads : List MinidumpThread)
-    → option_map thread_of (find (λ t. t.raw.thread_id == id) (reverse threads)) ≡ find (λ t. t.raw.thread_id == id) (reverse (map thread_of threads))
-found_as_value id [] = refl
-found_as_value id (x ∷ xs) =
-    ap (option_map thread_of) (last-cons (λ t. t.raw.thread_id == id) x xs)
-    ∙ go (find (λ t. t.raw.thread_id == id) (reverse xs)) (x.raw.thread_id == id)
-    ∙ ap (λ (o : Option Thread). option_or o (cond (x.raw.thread_id == id) (Some (thread_of x)) None)) (found_as_value id xs)
-    ∙ sym (last-cons (λ t. t.raw.thread_id == id) (thread_of x) (map thread_of xs))
-  where
-    go : (found : Option MinidumpThread) (b : Bool)
-        → option_map thread_of (option_or found (cond b (Some x) None)) ≡ option_or (option_map thread_of found) (cond b (Some (thread_of x)) None)
-    go (Some t) b = refl
-    go None true = refl
-    go None false = refl
 
 -- each entry becomes its thread
 pub kept_threads : (order : Endian) (file : List ℕ) (raws : List MINIDUMP_THREAD)

@@ -99,7 +99,7 @@ fn last_error(
     let Some(list) = as_found(&streams.threads)? else {
         return Ok(None);
     };
-    let Some(thread) = list.first_from_the_end(id) else {
+    let Some(thread) = list.get_thread(id) else {
         return Ok(None);
     };
     let Some(memory) = streams.get_memory()? else {

@@ -6,7 +6,7 @@ ghost use Rattle.minidump.specs.Report.{Reports, report_text, section_text, sect
 ghost use Rattle.minidump.specs.Shared.{AreShared};
 
 use crate::crash::print_crash;
-use crate::section::{print_error, print_unread};
+use crate::section::{print_error, print_stream, print_unread};
 use crate::shared::SharedStreams;
 use crate::{
     Minidump, MinidumpAssertion, MinidumpBreakpadInfo, MinidumpCrashpadInfo, MinidumpException,
@@ -115,24 +115,8 @@ fn print_streams<W: Write>(
     print_crash(dump, streams, names, alloc, f)
 }
 
-// Prints a stream, or what it adds to the report if it can't be read.
-macro_rules! print_stream {
-    ($type:ty, $read:expr, $section:ident, $dump:ident, $alloc:ident, $f:ident $(, $more:expr)*) => {
-        match &$read {
-            Ok(stream) => stream.print($alloc, $f $(, $more)*),
-            Err(error) => print_unread::<$type, W>($section, $dump, *error, $alloc, $f),
-        }
-    };
-}
-
-// Reads the stream of a section, and prints it.
-macro_rules! read_and_print {
-    ($section:ident, $type:ty, $dump:ident, $alloc:ident, $f:ident) => {{
-        let section = Section::$section;
-        print_stream!($type, $dump.get_stream::<$type>($alloc), section, $dump, $alloc, $f)
-    }};
-}
-
+// Prints a section: its stream, or what it adds to the report if it can't be read.
+#[tactic(auto, using(crate::proofs::ReportLemmas::section_unread))]
 fn print_section<W: Write>(
     section: Section,
     dump: &Minidump<'_>,
@@ -145,30 +129,60 @@ fn print_section<W: Write>(
 {
     match section {
         Section::SystemInfoStream => print_system_info(dump, alloc, f),
-        Section::MiscInfoStream => print_misc_info(dump, alloc, f),
+        Section::MiscInfoStream => print_stream(section, dump, alloc, f, MinidumpMiscInfo::print),
         Section::ExceptionStream => print_exception(dump, streams, alloc, f),
         Section::ThreadListStream => print_threads(dump, streams, alloc, f),
-        Section::ThreadNamesStream => print_thread_names(dump, alloc, f),
-        Section::ThreadInfoListStream => print_thread_infos(dump, alloc, f),
-        Section::ModuleListStream => print_modules(dump, alloc, f),
-        Section::UnloadedModuleListStream => print_unloaded_modules(dump, alloc, f),
+        Section::ThreadNamesStream => {
+            print_stream(section, dump, alloc, f, MinidumpThreadNames::print)
+        }
+        Section::ThreadInfoListStream => {
+            print_stream(section, dump, alloc, f, MinidumpThreadInfoList::print)
+        }
+        Section::ModuleListStream => {
+            print_stream(section, dump, alloc, f, MinidumpModuleList::print)
+        }
+        Section::UnloadedModuleListStream => {
+            print_stream(section, dump, alloc, f, MinidumpUnloadedModuleList::print)
+        }
         Section::Memory64ListStream => print_memory64_list(dump, streams, alloc, f),
         Section::MemoryListStream => print_memory_list(dump, streams, alloc, f),
-        Section::MemoryInfoListStream => print_memory_infos(dump, alloc, f),
-        Section::LinuxMaps => print_maps(dump, alloc, f),
-        Section::HandleDataStream => print_handles(dump, alloc, f),
-        Section::BreakpadInfoStream => print_breakpad_info(dump, alloc, f),
-        Section::AssertionInfoStream => print_assertion(dump, alloc, f),
-        Section::CrashpadInfoStream => print_crashpad_info(dump, alloc, f),
-        Section::MozMacosCrashInfoStream => print_mac_crash_info(dump, alloc, f),
-        Section::MozMacosBootargsStream => print_boot_args(dump, alloc, f),
-        Section::LinuxCpuInfo => print_cpu_info(dump, alloc, f),
-        Section::LinuxProcStatus => print_proc_status(dump, alloc, f),
-        Section::LinuxLsbRelease => print_lsb_release(dump, alloc, f),
-        Section::LinuxEnviron => print_environ(dump, alloc, f),
-        Section::MozLinuxLimits => print_proc_limits(dump, alloc, f),
-        Section::MozSoftErrors => print_soft_errors(dump, alloc, f),
-        Section::StabilityReportStream => print_stability_report(dump, alloc, f),
+        Section::MemoryInfoListStream => {
+            print_stream(section, dump, alloc, f, MinidumpMemoryInfoList::print)
+        }
+        Section::LinuxMaps => print_stream(section, dump, alloc, f, MinidumpLinuxMaps::print),
+        Section::HandleDataStream => {
+            print_stream(section, dump, alloc, f, MinidumpHandleDataStream::print)
+        }
+        Section::BreakpadInfoStream => {
+            print_stream(section, dump, alloc, f, MinidumpBreakpadInfo::print)
+        }
+        Section::AssertionInfoStream => {
+            print_stream(section, dump, alloc, f, MinidumpAssertion::print)
+        }
+        Section::CrashpadInfoStream => {
+            print_stream(section, dump, alloc, f, MinidumpCrashpadInfo::print)
+        }
+        Section::MozMacosCrashInfoStream => {
+            print_stream(section, dump, alloc, f, MinidumpMacCrashInfo::print)
+        }
+        Section::MozMacosBootargsStream => {
+            print_stream(section, dump, alloc, f, MinidumpMacBootargs::print)
+        }
+        Section::LinuxCpuInfo => print_stream(section, dump, alloc, f, MinidumpLinuxCpuInfo::print),
+        Section::LinuxProcStatus => {
+            print_stream(section, dump, alloc, f, MinidumpLinuxProcStatus::print)
+        }
+        Section::LinuxLsbRelease => {
+            print_stream(section, dump, alloc, f, MinidumpLinuxLsbRelease::print)
+        }
+        Section::LinuxEnviron => print_stream(section, dump, alloc, f, MinidumpLinuxEnviron::print),
+        Section::MozLinuxLimits => {
+            print_stream(section, dump, alloc, f, MinidumpLinuxProcLimits::print)
+        }
+        Section::MozSoftErrors => print_stream(section, dump, alloc, f, MinidumpSoftErrors::print),
+        Section::StabilityReportStream => {
+            print_stream(section, dump, alloc, f, StabilityReport::print)
+        }
     }
 }
 
@@ -200,16 +214,10 @@ fn print_exception<W: Write>(
         (section_text (dump_of dump.now) Section.ExceptionStream) result }
 {
     let section = Section::ExceptionStream;
-    print_stream!(
-        MinidumpException,
-        streams.exception,
-        section,
-        dump,
-        alloc,
-        f,
-        dump.system_info(),
-        None
-    )
+    match &streams.exception {
+        Ok(exception) => exception.print(alloc, f, dump.system_info(), None),
+        Err(error) => print_unread::<MinidumpException, W>(section, dump, *error, alloc, f),
+    }
 }
 
 // Prints the 64-bit list of memory, without its bytes.
@@ -225,15 +233,10 @@ fn print_memory64_list<W: Write>(
         (section_text (dump_of dump.now) Section.Memory64ListStream) result }
 {
     let section = Section::Memory64ListStream;
-    print_stream!(
-        MinidumpMemory64List,
-        streams.memory64,
-        section,
-        dump,
-        alloc,
-        f,
-        true
-    )
+    match &streams.memory64 {
+        Ok(list) => list.print(alloc, f, true),
+        Err(error) => print_unread::<MinidumpMemory64List, W>(section, dump, *error, alloc, f),
+    }
 }
 
 // Prints the list of memory, without its bytes.
@@ -249,15 +252,10 @@ fn print_memory_list<W: Write>(
         (section_text (dump_of dump.now) Section.MemoryListStream) result }
 {
     let section = Section::MemoryListStream;
-    print_stream!(
-        MinidumpMemoryList,
-        streams.memory,
-        section,
-        dump,
-        alloc,
-        f,
-        true
-    )
+    match &streams.memory {
+        Ok(list) => list.print(alloc, f, true),
+        Err(error) => print_unread::<MinidumpMemoryList, W>(section, dump, *error, alloc, f),
+    }
 }
 
 // Prints the threads with their stacks.
@@ -280,260 +278,4 @@ fn print_threads<W: Write>(
         },
         Err(error) => print_unread::<MinidumpThreadList, W>(section, dump, *error, alloc, f),
     }
-}
-
-// Prints the misc information.
-#[tactic(auto, using(crate::proofs::ReportLemmas::section_unread))]
-fn print_misc_info<W: Write>(
-    dump: &Minidump<'_>,
-    alloc: Global,
-    f: &mut Told<W>,
-) -> Result<(), Error>
-    ensures { Prints W.contents f.old f.new
-        (section_text (dump_of dump.now) Section.MiscInfoStream) result }
-{
-    read_and_print!(MiscInfoStream, MinidumpMiscInfo, dump, alloc, f)
-}
-
-// Prints the names of threads.
-#[tactic(auto, using(crate::proofs::ReportLemmas::section_unread))]
-fn print_thread_names<W: Write>(
-    dump: &Minidump<'_>,
-    alloc: Global,
-    f: &mut Told<W>,
-) -> Result<(), Error>
-    ensures { Prints W.contents f.old f.new
-        (section_text (dump_of dump.now) Section.ThreadNamesStream) result }
-{
-    read_and_print!(ThreadNamesStream, MinidumpThreadNames, dump, alloc, f)
-}
-
-// Prints the information on threads.
-#[tactic(auto, using(crate::proofs::ReportLemmas::section_unread))]
-fn print_thread_infos<W: Write>(
-    dump: &Minidump<'_>,
-    alloc: Global,
-    f: &mut Told<W>,
-) -> Result<(), Error>
-    ensures { Prints W.contents f.old f.new
-        (section_text (dump_of dump.now) Section.ThreadInfoListStream) result }
-{
-    read_and_print!(ThreadInfoListStream, MinidumpThreadInfoList, dump, alloc, f)
-}
-
-// Prints the modules.
-#[tactic(auto, using(crate::proofs::ReportLemmas::section_unread))]
-fn print_modules<W: Write>(dump: &Minidump<'_>, alloc: Global, f: &mut Told<W>) -> Result<(), Error>
-    ensures { Prints W.contents f.old f.new
-        (section_text (dump_of dump.now) Section.ModuleListStream) result }
-{
-    read_and_print!(ModuleListStream, MinidumpModuleList, dump, alloc, f)
-}
-
-// Prints the unloaded modules.
-#[tactic(auto, using(crate::proofs::ReportLemmas::section_unread))]
-fn print_unloaded_modules<W: Write>(
-    dump: &Minidump<'_>,
-    alloc: Global,
-    f: &mut Told<W>,
-) -> Result<(), Error>
-    ensures { Prints W.contents f.old f.new
-        (section_text (dump_of dump.now) Section.UnloadedModuleListStream) result }
-{
-    read_and_print!(
-        UnloadedModuleListStream,
-        MinidumpUnloadedModuleList,
-        dump,
-        alloc,
-        f
-    )
-}
-
-// Prints the information on memory.
-#[tactic(auto, using(crate::proofs::ReportLemmas::section_unread))]
-fn print_memory_infos<W: Write>(
-    dump: &Minidump<'_>,
-    alloc: Global,
-    f: &mut Told<W>,
-) -> Result<(), Error>
-    ensures { Prints W.contents f.old f.new
-        (section_text (dump_of dump.now) Section.MemoryInfoListStream) result }
-{
-    read_and_print!(MemoryInfoListStream, MinidumpMemoryInfoList, dump, alloc, f)
-}
-
-// Prints the maps of Linux.
-#[tactic(auto, using(crate::proofs::ReportLemmas::section_unread))]
-fn print_maps<W: Write>(dump: &Minidump<'_>, alloc: Global, f: &mut Told<W>) -> Result<(), Error>
-    ensures { Prints W.contents f.old f.new
-        (section_text (dump_of dump.now) Section.LinuxMaps) result }
-{
-    read_and_print!(LinuxMaps, MinidumpLinuxMaps, dump, alloc, f)
-}
-
-// Prints the handles.
-#[tactic(auto, using(crate::proofs::ReportLemmas::section_unread))]
-fn print_handles<W: Write>(dump: &Minidump<'_>, alloc: Global, f: &mut Told<W>) -> Result<(), Error>
-    ensures { Prints W.contents f.old f.new
-        (section_text (dump_of dump.now) Section.HandleDataStream) result }
-{
-    read_and_print!(HandleDataStream, MinidumpHandleDataStream, dump, alloc, f)
-}
-
-// Prints Breakpad's information.
-#[tactic(auto, using(crate::proofs::ReportLemmas::section_unread))]
-fn print_breakpad_info<W: Write>(
-    dump: &Minidump<'_>,
-    alloc: Global,
-    f: &mut Told<W>,
-) -> Result<(), Error>
-    ensures { Prints W.contents f.old f.new
-        (section_text (dump_of dump.now) Section.BreakpadInfoStream) result }
-{
-    read_and_print!(BreakpadInfoStream, MinidumpBreakpadInfo, dump, alloc, f)
-}
-
-// Prints the assertion.
-#[tactic(auto, using(crate::proofs::ReportLemmas::section_unread))]
-fn print_assertion<W: Write>(
-    dump: &Minidump<'_>,
-    alloc: Global,
-    f: &mut Told<W>,
-) -> Result<(), Error>
-    ensures { Prints W.contents f.old f.new
-        (section_text (dump_of dump.now) Section.AssertionInfoStream) result }
-{
-    read_and_print!(AssertionInfoStream, MinidumpAssertion, dump, alloc, f)
-}
-
-// Prints Crashpad's information.
-#[tactic(auto, using(crate::proofs::ReportLemmas::section_unread))]
-fn print_crashpad_info<W: Write>(
-    dump: &Minidump<'_>,
-    alloc: Global,
-    f: &mut Told<W>,
-) -> Result<(), Error>
-    ensures { Prints W.contents f.old f.new
-        (section_text (dump_of dump.now) Section.CrashpadInfoStream) result }
-{
-    read_and_print!(CrashpadInfoStream, MinidumpCrashpadInfo, dump, alloc, f)
-}
-
-// Prints the crash information of macOS.
-#[tactic(auto, using(crate::proofs::ReportLemmas::section_unread))]
-fn print_mac_crash_info<W: Write>(
-    dump: &Minidump<'_>,
-    alloc: Global,
-    f: &mut Told<W>,
-) -> Result<(), Error>
-    ensures { Prints W.contents f.old f.new
-        (section_text (dump_of dump.now) Section.MozMacosCrashInfoStream) result }
-{
-    read_and_print!(
-        MozMacosCrashInfoStream,
-        MinidumpMacCrashInfo,
-        dump,
-        alloc,
-        f
-    )
-}
-
-// Prints the information of Linux on processors.
-#[tactic(auto, using(crate::proofs::ReportLemmas::section_unread))]
-fn print_cpu_info<W: Write>(
-    dump: &Minidump<'_>,
-    alloc: Global,
-    f: &mut Told<W>,
-) -> Result<(), Error>
-    ensures { Prints W.contents f.old f.new
-        (section_text (dump_of dump.now) Section.LinuxCpuInfo) result }
-{
-    read_and_print!(LinuxCpuInfo, MinidumpLinuxCpuInfo, dump, alloc, f)
-}
-
-// Prints the status of a process of Linux.
-#[tactic(auto, using(crate::proofs::ReportLemmas::section_unread))]
-fn print_proc_status<W: Write>(
-    dump: &Minidump<'_>,
-    alloc: Global,
-    f: &mut Told<W>,
-) -> Result<(), Error>
-    ensures { Prints W.contents f.old f.new
-        (section_text (dump_of dump.now) Section.LinuxProcStatus) result }
-{
-    read_and_print!(LinuxProcStatus, MinidumpLinuxProcStatus, dump, alloc, f)
-}
-
-// Prints the release of Linux.
-#[tactic(auto, using(crate::proofs::ReportLemmas::section_unread))]
-fn print_lsb_release<W: Write>(
-    dump: &Minidump<'_>,
-    alloc: Global,
-    f: &mut Told<W>,
-) -> Result<(), Error>
-    ensures { Prints W.contents f.old f.new
-        (section_text (dump_of dump.now) Section.LinuxLsbRelease) result }
-{
-    read_and_print!(LinuxLsbRelease, MinidumpLinuxLsbRelease, dump, alloc, f)
-}
-
-// Prints the environment of a process of Linux.
-#[tactic(auto, using(crate::proofs::ReportLemmas::section_unread))]
-fn print_environ<W: Write>(dump: &Minidump<'_>, alloc: Global, f: &mut Told<W>) -> Result<(), Error>
-    ensures { Prints W.contents f.old f.new
-        (section_text (dump_of dump.now) Section.LinuxEnviron) result }
-{
-    read_and_print!(LinuxEnviron, MinidumpLinuxEnviron, dump, alloc, f)
-}
-
-// Prints the limits of a process of Linux.
-#[tactic(auto, using(crate::proofs::ReportLemmas::section_unread))]
-fn print_proc_limits<W: Write>(
-    dump: &Minidump<'_>,
-    alloc: Global,
-    f: &mut Told<W>,
-) -> Result<(), Error>
-    ensures { Prints W.contents f.old f.new
-        (section_text (dump_of dump.now) Section.MozLinuxLimits) result }
-{
-    read_and_print!(MozLinuxLimits, MinidumpLinuxProcLimits, dump, alloc, f)
-}
-
-// Prints the boot arguments of macOS.
-#[tactic(auto, using(crate::proofs::ReportLemmas::section_unread))]
-fn print_boot_args<W: Write>(
-    dump: &Minidump<'_>,
-    alloc: Global,
-    f: &mut Told<W>,
-) -> Result<(), Error>
-    ensures { Prints W.contents f.old f.new
-        (section_text (dump_of dump.now) Section.MozMacosBootargsStream) result }
-{
-    read_and_print!(MozMacosBootargsStream, MinidumpMacBootargs, dump, alloc, f)
-}
-
-// Prints the soft errors.
-#[tactic(auto, using(crate::proofs::ReportLemmas::section_unread))]
-fn print_soft_errors<W: Write>(
-    dump: &Minidump<'_>,
-    alloc: Global,
-    f: &mut Told<W>,
-) -> Result<(), Error>
-    ensures { Prints W.contents f.old f.new
-        (section_text (dump_of dump.now) Section.MozSoftErrors) result }
-{
-    read_and_print!(MozSoftErrors, MinidumpSoftErrors, dump, alloc, f)
-}
-
-// Prints the stability report.
-#[tactic(auto, using(crate::proofs::ReportLemmas::section_unread))]
-fn print_stability_report<W: Write>(
-    dump: &Minidump<'_>,
-    alloc: Global,
-    f: &mut Told<W>,
-) -> Result<(), Error>
-    ensures { Prints W.contents f.old f.new
-        (section_text (dump_of dump.now) Section.StabilityReportStream) result }
-{
-    read_and_print!(StabilityReportStream, StabilityReport, dump, alloc, f)
 }

@@ -1,4 +1,4 @@
-ghost use Rattle.std.specs.Prelude.{◌≡◌, ◌≢◌, ℕ, List, Err};
+ghost use Rattle.std.specs.Prelude.{◌≡◌, ◌≢◌, ℕ, List, Ok, Err};
 ghost use Rattle.minidump_format.specs.declared.error.Error.{Error};
 ghost use Rattle.minidump_format.specs.Print.{Prints};
 ghost use Rattle.minidump.specs.Dump.{IsStreamOf};
@@ -14,6 +14,34 @@ use minidump_format::{Error, no_memory, print_item, put_text};
 use minidump_system::MinidumpStream;
 use std::alloc::Global;
 use std::io::Write;
+
+// Reads the stream of a section of the report, and prints it by `print`, or what it adds if it
+// can't be read.
+pub(crate) fn print_stream<'a, S, W, P>(
+    section: Section,
+    dump: &Minidump<'a>,
+    alloc: Global,
+    f: &mut Told<W>,
+    print: P,
+) -> Result<(), Error>
+where
+    S: MinidumpStream<'a> + Drop,
+    W: Write,
+    P: FnOnce(&S, Global, &mut Told<W>) -> Result<(), Error>,
+    requires callable { P.IsAlwaysCallable print }
+    requires prints { (value old new printed : _)
+        → IsStreamOf S.spec (dump_of dump.now) (Ok value.now)
+        → P.post print value alloc old printed new
+        → Prints W.contents old.now new.now (section_text (dump_of dump.now) section) printed }
+    requires text { IsUnreadText S.spec (dump_of dump.now)
+        (section_text (dump_of dump.now) section) }
+    ensures { Prints W.contents f.old f.new (section_text (dump_of dump.now) section) result }
+{
+    match dump.get_stream::<S>(alloc) {
+        Ok(stream) => print(&stream, alloc, f),
+        Err(error) => print_unread::<S, W>(section, dump, error, alloc, f),
+    }
+}
 
 // Prints what a stream of the type `S`, whose section of the report this is, adds to it if it can't
 // be read: nothing if it is absent, else the name of its error.

@@ -1,12 +1,14 @@
-ghost use Rattle.std.specs.Prelude.{◌≡◌, ◌+◌, IfSome};
+ghost use Rattle.std.specs.Prelude.{◌≡◌, ◌+◌, IfSome, Some};
 ghost use Rattle.std.specs.Option.{option_copied, option_map};
 ghost use Rattle.minidump_bytes.specs.Source.{bytes_of};
 ghost use Rattle.minidump_bytes.specs.Steps.{after};
 ghost use Rattle.minidump_context.specs.declared.validity.MinidumpContextValidity.TheVariants.{All};
 ghost use Rattle.minidump_memory.specs.Memory.{memory_of, spans_read};
 ghost use Rattle.minidump_memory.specs.Unified.{unified_list, unified_region};
+ghost use Rattle.minidump.specs.Crash.{error_in};
 ghost use Rattle.minidump.specs.Thread.{IsErrorIn, IsStack, accepted_context, error_at, known_context};
 ghost use Rattle.minidump.specs.Thread.{last_error_address, thread_at, thread_of};
+ghost use Rattle.minidump.specs.ThreadText.{stack_of};
 ghost use Rattle.minidump_system.specs.SystemInfo.{system_info_of};
 
 mod print;
@@ -98,8 +100,10 @@ impl<'a> MinidumpThread<'a> {
         &'mem self,
         memory_list: &'mem UnifiedMemoryList<'a>,
     ) -> Option<UnifiedMemory<'mem, 'a>>
-        ensures { IsStack (thread_of self.now) (unified_list memory_list.now)
+        ensures stack { IsStack (thread_of self.now) (unified_list memory_list.now)
             (option_map unified_region result) }
+        ensures answer { option_map unified_region result
+            ≡ stack_of (Some (unified_list memory_list.now)) (thread_of self.now) }
     {
         match &self.stack {
             Some(stack) => Some(UnifiedMemory::Memory(stack)),
@@ -118,8 +122,10 @@ impl<'a> MinidumpThread<'a> {
         memory: &UnifiedMemoryList<'_>,
         names: &CodeNames<'_>,
     ) -> Option<CrashReason>
-        ensures { IsErrorIn names.now (unified_list memory.now)
+        ensures error { IsErrorIn names.now (unified_list memory.now)
             (last_error_address cpu self.now.raw.teb) result }
+        ensures answer { result ≡ error_in names.now (unified_list memory.now)
+            (last_error_address cpu self.now.raw.teb) }
     {
         let address = last_error_address(cpu, self.raw.teb)?;
         error_at(names, address, memory.memory_at_address(address))

@@ -4,6 +4,7 @@ ghost use Rattle.std.specs.Slice.Iter.{iter_rest};
 ghost use Rattle.minidump_format.specs.Print.{Prints};
 ghost use Rattle.minidump_system.specs.SystemInfo.{system_info_of};
 ghost use Rattle.minidump_memory.specs.Unified.{unified_list};
+ghost use Rattle.minidump.specs.Crash.{last_with};
 ghost use Rattle.minidump.specs.Thread.{IsLastThread, thread_of, thread_list_of, thread_list_stream};
 ghost use Rattle.minidump.specs.ThreadText.{thread_list_text};
 
@@ -51,14 +52,16 @@ impl<'a> MinidumpThreadList<'a> {
     /// Returns the last thread with an id, or `None` if no thread has it. Searches from the end of
     /// the list.
     pub fn get_thread(&self, id: u32) -> Option<&MinidumpThread<'a>>
-        ensures { IsLastThread id (thread_list_of self.now)
+        ensures last { IsLastThread id (thread_list_of self.now)
             (option_map thread_of (option_copied result)) }
+        ensures answer { option_map thread_of (option_copied result)
+            ≡ last_with id (thread_list_of self.now) }
     {
         self.first_from_the_end(id)
     }
 
     // Returns the first thread with an id, from the end of the list on.
-    pub(crate) fn first_from_the_end(&self, id: u32) -> Option<&MinidumpThread<'a>>
+    fn first_from_the_end(&self, id: u32) -> Option<&MinidumpThread<'a>>
         ensures { option_copied result
             ≡ find (λ t. t.raw.thread_id == id) (reverse self.now.threads.items) }
     {

@@ -246,9 +246,9 @@ struct minidump_crash {
     size_t thread_index; /* of the thread that crashed, in the table of threads */
     size_t damage_count; /* how many streams, exceptions, contexts and stacks are there and can't be read; one more for
                           * each of these kinds that there is: entries of the directory outside the file beside a stream
-                          * that is in it, regions of memory outside the file, and modules without addresses; and one
-                          * for each stream with texts, or with records, that can't be read. minidump_crash_json names
-                          * them */
+                          * that is in it, regions of memory outside the file, and modules without addresses; one for
+                          * each stream with texts, or with records, that can't be read; and one for each exception
+                          * whose record has no room for all of its parameters. minidump_crash_json names them */
     size_t register_size; /* how many bytes a register has */
     size_t frame_count;   /* the sizes of the whole tables, and of all texts */
     size_t register_count;

@@ -15,11 +15,12 @@ use Rattle.minidump_format.specs.declared.error.Error.TheVariants.{MemoryReadFai
 use Rattle.minidump_format.specs.declared.format.memory.MINIDUMP_MEMORY_DESCRIPTOR.{MINIDUMP_MEMORY_DESCRIPTOR}
 use Rattle.minidump_system.specs.Reads.{and_then}
 use Rattle.minidump_memory.specs.Memory.{MemoryRegion, descriptor_region, spans_read}
-use Rattle.minidump_memory.specs.MemoryList.{descriptor_regions, is_outside, is_read_failure}
+use Rattle.minidump_memory.specs.MemoryList.{descriptor_regions, is_outside}
 
-abbrev by_error : {V : Type 0} → Result V Error → Bool
-by_error (Ok region) = false
-by_error (Err e) = is_read_failure e
+-- no region is read, since its bytes are not all in the file
+abbrev pub by_error : {V : Type 0} → Result V Error → Bool
+by_error (Err StreamReadFailure) = true
+by_error r = false
 
 by_parts : {V : Type 0} (z y : Bool) (s : Option (List ℕ)) (f : List ℕ → V)
     → by_error (if z || y then Err MemoryReadFailure else and_then (ok_or s StreamReadFailure) (λ bytes. Ok (f bytes)))

@@ -1,8 +1,9 @@
 -- The names of threads in a sorted map, and the last of each.
+use mir.Val.{bool_byte}
 use Rattle.std.proofs.Common.{◌≡◌, ◌≢◌, ℕ, ◌+◌, ◌<◌, ◌≤◌, cond, Bool, true, false, List, [], ◌∷◌, ◌++◌, map, Option, Some, None, refl, ap, sym, ◌∙◌, arith}
 use Rattle.std.proofs.Common.{get_or, length, take}
 use Rattle.std.proofs.Common.{append_assoc, append-nil}
-use Rattle.std.specs.Prelude.{◌==◌, All, count_by, if◌then◌else◌, not}
+use Rattle.std.specs.Prelude.{◌==◌, All, count_by}
 use Rattle.std.specs.BTreeMap.{BTreeMap, IsOrdered, Updates, get, is_at}
 use Rattle.std.specs.List.{AllZip}
 use Rattle.std.specs.Map.{lookup}
@@ -119,14 +120,18 @@ name_found text m id = lookup-map_values text (λ k. k == id) m.entries ∙ ap (
 
 -- ---- names that are no text
 
-flipped : (b : Bool) → ◌≡◌ {A = ℕ} (cond (not b) 1 0) (if b then 0 else 1)
-flipped true = refl
-flipped false = refl
+as_byte : (b : Bool) → cond b 1 0 ≡ bool_byte b
+as_byte true = refl
+as_byte false = refl
 
--- one entry more counts, but where its RVA is 0
-pub counted_more : {R : Type 0} (p : R → Bool) (xs : List R) (i : ℕ) (x : R) (is_zero : Bool) → i < length xs → get_or xs i x ≡ x → p x ≡ not is_zero
-    → count_by p (take (i + 1) xs) ≡ count_by p (take i xs) + (if is_zero then 0 else 1)
-counted_more p xs i x is_zero inside item is =
+pub at_most_one : (b : Bool) → bool_byte b ≤ 1
+at_most_one true = omega arith
+at_most_one false = omega arith
+
+-- one entry more counts, if it passes the test
+pub counted_more : {R : Type 0} (p : R → Bool) (xs : List R) (i : ℕ) (x : R) (passes : Bool) → i < length xs → get_or xs i x ≡ x → p x ≡ passes
+    → count_by p (take (i + 1) xs) ≡ count_by p (take i xs) + bool_byte passes
+counted_more p xs i x passes inside item is =
     sum_by_more (λ y. cond (p y) 1 0) xs i x inside
     ∙ ap (λ b. count_by p (take i xs) + cond b 1 0) (ap p item ∙ is)
-    ∙ ap (λ n. count_by p (take i xs) + n) (flipped is_zero)
+    ∙ ap (λ n. count_by p (take i xs) + n) (as_byte passes)

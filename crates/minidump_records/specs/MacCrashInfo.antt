@@ -1,10 +1,10 @@
 -- The crash information of macOS: Mozilla's MDRawMacCrashInfo.
 pub mod Record
 pub mod Text
-use Rattle.std.specs.Prelude.{ℕ, ◌+◌, ◌-◌, ◌==◌, List, ◌∷◌, length, map, min, take, Option, Some, None, Result, Ok, Err, slice_range}
+use Rattle.std.specs.Prelude.{ℕ, ◌+◌, ◌-◌, ◌==◌, Bool, List, ◌∷◌, count_by, map, nat_eq, min, take, Option, Some, None, Result, Ok, Err, slice_range}
 use Rattle.std.specs.Prelude.{if◌then◌else◌, IsSomeAnd, ◌<◌, ◌*◌}
 use Rattle.std.specs.List.{filter_map, sum_by, zip}
-use Rattle.std.specs.Option.{ok_or, option_and_then, option_map}
+use Rattle.std.specs.Option.{ok_or, option_and_then, option_eq, option_map}
 use Rattle.minidump_bytes.specs.declared.endian.Endian.{Endian}
 use Rattle.minidump_bytes.specs.Number.{number_at}
 use Rattle.minidump_bytes.specs.Span.{record_at}
@@ -84,22 +84,22 @@ located_records order file start ls =
     and_then (all_ok (neighbouring_record order file start) (with_neighbours ls))
     (λ rs. Ok (filter_map (λ r. r) rs))
 
--- these records, of so many that are counted: there is none for one of version 0, nor for those beyond
--- the 20 locations
-abbrev pub counted_records : ℕ → List MacRecord → MacRecords
-counted_records count records = record {
-  records = records;
-  unreadable = count - length records;
-}
+-- the record at a location states version 0, of which no record is read
+abbrev pub states_version_0 : Endian → List ℕ → MINIDUMP_LOCATION_DESCRIPTOR → Bool
+states_version_0 order file l = option_eq nat_eq (located_version order file l) (Some 0)
 
 -- Mozilla's MDRawMacCrashInfo: a count of records, of which the first 20 are read, and their
--- locations. The numbers in it and in its records that name a type of stream are not tested
+-- locations. Those of version 0, and those beyond the 20, are unreadable. The numbers in it and in
+-- its records that name a type of stream are not tested
 abbrev pub mac_crash_info_in : Endian → List ℕ → List ℕ → Result MacRecords Error
 mac_crash_info_in order file bytes =
     and_then (ok_or (record_at mac_crash_info order 0 bytes) StreamReadFailure) (λ info.
-    and_then (located_records order file info.record_start_size
-    (take (min info.record_count 20) info.records)) (λ records.
-    Ok (counted_records info.record_count records)))
+    let locations = take (min info.record_count 20) info.records in
+    and_then (located_records order file info.record_start_size locations) (λ records.
+    Ok (record {
+      records = records;
+      unreadable = count_by (states_version_0 order file) locations + (info.record_count - 20);
+    })))
 
 -- how many records are read
 abbrev pub count_of_records : Endian → List ℕ → ℕ

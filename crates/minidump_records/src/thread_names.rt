@@ -1,5 +1,5 @@
 ghost use Rattle.std.specs.Prelude.{◌≡◌, ◌^◌, ◌+◌, ◌*◌, ◌++◌, ◌≤◌, [], ◌↔◌, length, Any, IfOk, IsOkUnless, IsTrue};
-ghost use Rattle.std.specs.Prelude.{◌==◌, OnErr, OnOk, if◌then◌else◌, map, string_bytes};
+ghost use Rattle.std.specs.Prelude.{OnErr, OnOk, map, string_bytes};
 ghost use Rattle.std.specs.BTreeMap.{IsOrdered, Updates};
 ghost use Rattle.std.specs.Option.{option_copied, option_map};
 ghost use Rattle.std.specs.Ordering.{nat_cmp};
@@ -165,18 +165,10 @@ fn read_names(
         let raw = raws.read(index, steps);
         match read_name(alloc, &raw, all, endian, steps)? {
             Some(name) => put_name(&mut names, raw.thread_id, name)?,
-            None => unreadable += unless_zero(raw.thread_name_rva),
+            None => unreadable += u64::from(raw.thread_name_rva != 0),
         }
     }
     Ok(MinidumpThreadNames { names, unreadable })
-}
-
-// Returns 1 for an RVA that isn't 0, and 0 for 0.
-fn unless_zero(rva: u64) -> u64
-    ensures count { result ≡ (if rva == 0 then 0 else 1) }
-    ensures few { result ≤ 1 }
-{
-    if rva == 0 { 0 } else { 1 }
 }
 
 // Reads the name of an entry, or returns `Ok(None)` if it is no text.

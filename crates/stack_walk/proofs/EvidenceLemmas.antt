@@ -12,7 +12,8 @@ use Rattle.stack_walk.specs.declared.frame.FrameTrust.TheVariants.{Link, Scan}
 use Rattle.stack_walk.specs.declared.frame.StackFrame.{StackFrame}
 use Rattle.stack_walk.specs.Addresses.{address_after, unsigned}
 use Rattle.stack_walk.specs.Evidence.{HasEvidence, IsFromLink, IsShown, word_below}
-use Rattle.stack_walk.specs.Frames.{AreCallers, AreFrames, StackValue, candidate_at, candidate_by, context_frame, firsts, link_candidate}
+use Rattle.stack_walk.specs.Climb.{AreCallers}
+use Rattle.stack_walk.specs.Frames.{AreFrames, StackValue, caller_of, candidate_at, candidate_by, context_frame, firsts, link_candidate}
 use Rattle.stack_walk.specs.Frames.{link_in, may_have_called, pointer_at, return_at, scan}
 use Rattle.stack_walk.specs.Frames.{word_candidate, word_candidates, words_above, words_below}
 use Rattle.stack_walk.specs.Link.{IsLinkCandidate}
@@ -41,7 +42,7 @@ of_caller s f g r =
     }
 
 -- a candidate has the return address of its word
-by_return : (s : StackValue) (after address : ℕ) (f : StackFrame) → candidate_by s after address ≡ Some f
+pub by_return : (s : StackValue) (after address : ℕ) (f : StackFrame) → candidate_by s after address ≡ Some f
     → ◌≡◌ {A = StackFrame} (record { instruction = address; stack_pointer = after; frame_pointer = None; trust = Scan }) f
 by_return s after address f e =
     let call =
@@ -146,7 +147,7 @@ in_stack s c f evidence = inl evidence
 in_link : (s : StackValue) (c : MinidumpContext) (f : StackFrame) → IsFromLink s c f → IsShown s c f
 in_link s c f from = inr from
 
-all_callers : (s : StackValue) (c : MinidumpContext) (f : StackFrame) (gs : List StackFrame) (last : StackFrame) → AreCallers s f gs last
+all_callers : (s : StackValue) (c : MinidumpContext) (f : StackFrame) (gs : List StackFrame) (last : StackFrame) → AreCallers (caller_of s) f gs last
     → All (IsShown s c) gs
 all_callers s c f [] last callers = All-nil (IsShown s c)
 all_callers s c f (g ∷ gs) last callers =

@@ -4,8 +4,9 @@ use Rattle.std.specs.Prelude.{◌↔◌, take}
 use Rattle.std.proofs.lemmas.List.{length-take}
 use Rattle.minidump.specs.declared.MinidumpContext.{MinidumpContext}
 use Rattle.stack_walk.specs.declared.frame.StackFrame.{StackFrame}
+use Rattle.stack_walk.specs.Climb.{outermost}
 use Rattle.stack_walk.specs.Frames.{AreFrames, StackValue, context_frame, link_in, scan, stack_bytes}
-use Rattle.stack_walk.specs.Walk.{callers_in, frames_in, outermost}
+use Rattle.stack_walk.specs.Walk.{callers_in, frames_in}
 use Rattle.stack_walk.proofs.UpLemmas.{are_callers, walk_is}
 use Rattle.stack_walk.proofs.WalkLemmas.{few_callers}
 

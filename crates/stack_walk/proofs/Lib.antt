@@ -1,6 +1,7 @@
 -- The lemmas of this crate.
 pub mod AddressLemmas
 pub mod CallerLemmas
+pub mod ClimbLemmas
 pub mod ContextLemmas
 pub mod WalkLemmas
 pub mod FramesLemmas
@@ -8,5 +9,4 @@ pub mod UpLemmas
 pub mod LinkLemmas
 pub mod EvidenceLemmas
 pub mod ScanLemmas
-pub mod StackLemmas
 pub mod FoundLemmas

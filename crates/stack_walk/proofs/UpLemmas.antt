@@ -1,5 +1,5 @@
 -- The callers of the function are those of the relation: going up the stack, each caller is met.
-use Rattle.std.proofs.Common.{◌≡◌, ◌∙◌, ℕ, zero, suc, ◌+◌, ◌<◌, ◌≤◌, List, [], ◌∷◌, length, Bool, true, false, Option, Some, None}
+use Rattle.std.proofs.Common.{◌≡◌, ◌∙◌, ℕ, ◌+◌, ◌<◌, ◌≤◌, List, [], ◌∷◌, length, Bool, true, false, Option, Some, None}
 use Rattle.std.proofs.Common.{refl, ap, sym, subst, arith, ◌⊎◌, inl, inr}
 use Rattle.std.specs.Prelude.{◌==◌, if◌then◌else◌}
 use Rattle.std.specs.List.{range_with_len}
@@ -8,9 +8,11 @@ use Rattle.std.proofs.lemmas.Bool.{cases_lt}
 use Rattle.std.proofs.lemmas.Bool.Decides.{nat_tests}
 use Rattle.minidump.specs.Below.MemoryLists.Unified.{UnifiedRegion}
 use Rattle.stack_walk.specs.declared.frame.StackFrame.{StackFrame}
-use Rattle.stack_walk.specs.Frames.{AreCallers, IsWalk, StackValue, caller_of, record_of, stack_bytes}
-use Rattle.stack_walk.specs.Walk.{addresses_of, caller_here, callers_at, callers_in, outermost, points_to}
+use Rattle.stack_walk.specs.Climb.{AreCallers, callers_at, outermost}
+use Rattle.stack_walk.specs.Frames.{IsWalk, StackValue, caller_of, record_of, stack_bytes}
+use Rattle.stack_walk.specs.Walk.{addresses_of, caller_here, callers_in, points_to}
 use Rattle.stack_walk.proofs.CallerLemmas.{base_of, end_of, has_record, in_stack, passed, wide}
+use Rattle.stack_walk.proofs.ClimbLemmas.{up}
 use Rattle.stack_walk.proofs.WalkLemmas.{same_walk}
 
 -- where the record of a frame that has a caller stands
@@ -46,22 +48,6 @@ at_pointer s f g a st is = (let k : Some st.address ≡ Some a = sym st.points �
 
 -- ---- a step
 
-callers_some : (s : StackValue) (f g : StackFrame) (a : ℕ) (above : List ℕ) → caller_here s f a ≡ Some g
-    → callers_at s f (a ∷ above) ≡ g ∷ callers_at s g above
-unfolding callers_at
-callers_some s f g a above is =
-    ap (λ (o : Option StackFrame). option_map_or (λ caller. caller ∷ callers_at s caller above) o (callers_at s f above)) is
-
-callers_none : (s : StackValue) (f : StackFrame) (a : ℕ) (above : List ℕ) → caller_here s f a ≡ None
-    → callers_at s f (a ∷ above) ≡ callers_at s f above
-unfolding callers_at
-callers_none s f a above is =
-    ap (λ (o : Option StackFrame). option_map_or (λ caller. caller ∷ callers_at s caller above) o (callers_at s f above)) is
-
-callers_end : (s : StackValue) (f : StackFrame) → callers_at s f [] ≡ []
-unfolding callers_at
-callers_end s f = refl
-
 -- a frame that points to an address has its caller there
 here : (s : StackValue) (f : StackFrame) (a : ℕ) → record_of f ≡ Some a → caller_here s f a ≡ caller_of s f
 here s f a is =
@@ -80,8 +66,8 @@ met s f g a e =
     pointer (Some b) is = (let same : b ≡ a = grind (arith, nat_tests, is) in ap Some same)
 
 -- past an address at which none is met, no record stands below the next one
-past : (s : StackValue) (f : StackFrame) (p : ℕ) → IsAhead s f p → caller_here s f p ≡ None → IsAhead s f (p + 1)
-past s f p ahead none g a is points = go (cases_lt p a)
+past : (s : StackValue) (f : StackFrame) (p : ℕ) → caller_here s f p ≡ None → IsAhead s f p → IsAhead s f (p + 1)
+past s f p none ahead g a is points = go (cases_lt p a)
   where
     go : (p < a) ⊎ (a ≤ p) → p + 1 ≤ a
     go (inl more) = omega (arith, more)
@@ -89,36 +75,22 @@ past s f p ahead none g a is points = go (cases_lt p a)
         let same : a ≡ p = omega (arith, few, ahead g a is points) in
         let k : None ≡ Some g = sym none ∙ (here s f p (points ∙ ap Some same) ∙ is) in cc
 
--- ---- the whole way up
-
-by_caller : (s : StackValue) (f : StackFrame) (p : ℕ) (above : List ℕ) (o : Option StackFrame) → caller_here s f p ≡ o → IsAhead s f p
-    → ((g : StackFrame) → IsAhead s g (p + 1) → AreCallers s g (callers_at s g above) (outermost g (callers_at s g above)))
-    → AreCallers s f (callers_at s f (p ∷ above)) (outermost f (callers_at s f (p ∷ above)))
-by_caller s f p above None is ahead rest =
-    subst (λ (callers : List StackFrame). AreCallers s f callers (outermost f callers)) (sym (callers_none s f p above is)) (rest f (past s f p ahead is))
-by_caller s f p above (Some g) is ahead rest =
+-- where one is met, its own caller's record stands above
+next : (s : StackValue) (f g : StackFrame) (p : ℕ) → caller_here s f p ≡ Some g → IsAhead s f p → (caller_of s f ≡ Some g) × IsAhead s g (p + 1)
+next s f g p is ahead =
     let both = met s f g p is in
     let st = stands s f g both.0 in
-    let here = at_pointer s f g p st both.1 in
-    let next : IsAhead s g (p + 1) = λ h a caller points.
-    let up = stands s g h caller in
-    omega (arith, here, st.below, up.above, at_pointer s g h a up points)
-    in
-    subst (λ (callers : List StackFrame). AreCallers s f callers (outermost f callers)) (sym (callers_some s f g p above is)) (both.0, rest g next)
+    let here = at_pointer s f g p st both.1 in (
+      both.0,
+      λ h a caller points. let up = stands s g h caller in omega (arith, here, st.below, up.above, at_pointer s g h a up points),
+    )
 
 no_caller : (s : StackValue) (f : StackFrame) (o : Option StackFrame) → caller_of s f ≡ o → IsAhead s f (end_of s) → caller_of s f ≡ None
 no_caller s f None is ahead = is
 no_caller s f (Some g) is ahead =
     let st = stands s f g is in absurd (let a = ahead g st.address is st.points in omega (arith, a, st.within))
 
-up : (s : StackValue) (n p : ℕ) (f : StackFrame) → p + n ≡ end_of s → IsAhead s f p
-    → AreCallers s f (callers_at s f (range_with_len p n)) (outermost f (callers_at s f (range_with_len p n)))
-up s zero p f is ahead =
-    let end : p ≡ end_of s = omega (arith, is) in
-    subst (λ (callers : List StackFrame). AreCallers s f callers (outermost f callers)) (sym (callers_end s f))
-    (no_caller s f (caller_of s f) refl (subst (λ (q : ℕ). IsAhead s f q) end ahead), refl)
-up s (suc n) p f is ahead =
-    by_caller s f p (range_with_len (p + 1) n) (caller_here s f p) refl ahead (λ g next. up s n (p + 1) g (omega (arith, is)) next)
+-- ---- the whole way up
 
 -- the addresses of a stack
 addresses : (region : Option UnifiedRegion) → option_map_or addresses_of region []
@@ -127,13 +99,15 @@ addresses None = refl
 addresses (Some r) = refl
 
 -- the callers of the function are those of the relation
-pub are_callers : (s : StackValue) (f : StackFrame) → AreCallers s f (callers_in s f) (outermost f (callers_in s f))
+pub are_callers : (s : StackValue) (f : StackFrame) → AreCallers (caller_of s) f (callers_in s f) (outermost f (callers_in s f))
 are_callers s f =
     let ahead : IsAhead s f (base_of s) = λ g a caller points.
     let st = stands s f g caller in omega (arith, st.from, at_pointer s f g a st points)
     in
-    subst (λ (list : List ℕ). AreCallers s f (callers_at s f list) (outermost f (callers_at s f list))) (sym (addresses s.region))
-    (up s (length (stack_bytes s)) (base_of s) f refl ahead)
+    subst (λ (list : List ℕ). AreCallers (caller_of s) f (callers_at (caller_here s) f list) (outermost f (callers_at (caller_here s) f list)))
+    (sym (addresses s.region))
+    (up (caller_of s) (caller_here s) (IsAhead s) (end_of s) (next s) (past s) (λ g done. no_caller s g (caller_of s g) refl done)
+    (length (stack_bytes s)) (base_of s) f refl ahead)
 
 -- and the only ones
 pub walk_is : (s : StackValue) (f : StackFrame) (frames : List StackFrame) (last : StackFrame) → IsWalk s f frames last

@@ -28,6 +28,7 @@ use Rattle.stack_walk.specs.declared.frame.StackFrame.{StackFrame}
 use Rattle.stack_walk.specs.declared.stack.Stack.{Stack}
 use Rattle.stack_walk.specs.Addresses.{address_after, unmarked, unsigned}
 use Rattle.stack_walk.specs.Calls.{is_past_headers, may_end_call}
+use Rattle.stack_walk.specs.Climb.{AreCallers}
 use Rattle.stack_walk.specs.Lookups.{call_site, is_code, may_be_run}
 
 -- a stack: the region of memory that holds it, if the dump has one, the modules, the memory, what is
@@ -151,18 +152,12 @@ caller_of s f = option_and_then (λ size. option_and_then (λ address.
     if nat_lt address f.stack_pointer then None else caller_at s size address) (record_of f))
     (pointer_bytes s.width)
 
--- the callers of a frame, the innermost first: each is the caller of the one before it, and the
--- last frame has none
-abbrev pub AreCallers : StackValue → StackFrame → List StackFrame → StackFrame → Type 0
-AreCallers s f [] last = (caller_of s f ≡ None) × (last ≡ f)
-AreCallers s f (g ∷ gs) last = (caller_of s f ≡ Some g) × AreCallers s g gs last
-
 -- the frames from one on: that frame and its callers, and the last of them
 pub record IsWalk (s : StackValue) (first : StackFrame) (frames : List StackFrame)
     (last : StackFrame) : Type 0 where
   pub callers : List StackFrame
   pub whole : frames ≡ first ∷ callers
-  pub are_callers : AreCallers s first callers last
+  pub are_callers : AreCallers (caller_of s) first callers last
 
 -- ---- candidates, by the words of the stack
 

@@ -2,6 +2,7 @@
 pub mod Addresses
 pub mod Lookups
 pub mod Calls
+pub mod Climb
 pub mod Frames
 pub mod WalkEnd
 pub mod Walk

@@ -8,6 +8,7 @@ use Rattle.minidump.specs.Below.MemoryLists.Unified.{UnifiedRegion}
 use Rattle.stack_walk.specs.declared.end.WalkEnd.{WalkEnd}
 use Rattle.stack_walk.specs.declared.frame.StackFrame.{StackFrame}
 use Rattle.stack_walk.specs.declared.walk.Walk.{Walk}
+use Rattle.stack_walk.specs.Climb.{callers_at, outermost}
 use Rattle.stack_walk.specs.Frames.{StackValue, caller_of, context_frame, link_in, record_of}
 use Rattle.stack_walk.specs.Frames.{scan}
 use Rattle.stack_walk.specs.WalkEnd.{walk_end}
@@ -20,15 +21,6 @@ points_to f address = option_map_or (λ at. at == address) (record_of f) false
 abbrev pub caller_here : StackValue → StackFrame → ℕ → Option StackFrame
 caller_here s f address = if points_to f address then caller_of s f else None
 
--- the callers of a frame, of those to which records at these ascending addresses lead: the caller
--- to which the record at the first leads, and its callers by the addresses above; where there is
--- none, those by the addresses above
-unfoldable pub callers_at : StackValue → StackFrame → List ℕ → List StackFrame
-callers_at s f [] = []
-callers_at s f (address ∷ above) =
-    option_map_or (λ caller. caller ∷ callers_at s caller above) (caller_here s f address)
-    (callers_at s f above)
-
 -- the addresses of a region, ascending
 abbrev pub addresses_of : UnifiedRegion → List ℕ
 addresses_of region = range_with_len region.base_address (length region.bytes)
@@ -37,14 +29,10 @@ addresses_of region = range_with_len region.base_address (length region.bytes)
 abbrev pub stack_addresses : StackValue → List ℕ
 stack_addresses s = option_map_or addresses_of s.region []
 
--- the callers of a frame, the innermost first
+-- the callers of a frame, the innermost first: those to which records at the addresses of the stack
+-- lead
 abbrev pub callers_in : StackValue → StackFrame → List StackFrame
-callers_in s f = callers_at s f (stack_addresses s)
-
--- the last of a frame and its callers
-abbrev pub outermost : StackFrame → List StackFrame → StackFrame
-outermost f [] = f
-outermost f (caller ∷ callers) = outermost caller callers
+callers_in s f = callers_at (caller_here s) f (stack_addresses s)
 
 -- a walk: the frames by frame pointers, the candidates, and why the last of the frames has no
 -- caller

@@ -1,9 +1,8 @@
-ghost use Rattle.std.specs.Prelude.{◌≡◌, IfOk, IfSome, IsOkUnless, IsSome, OnErr, Some};
+ghost use Rattle.std.specs.Prelude.{◌≡◌, IfOk, IfSome, IsOkUnless, IsSome, OnErr};
 ghost use Rattle.std.specs.Option.{option_map};
 ghost use Rattle.minidump.specs.declared.MinidumpContextValidity.TheVariants.{All};
 ghost use Rattle.minidump.specs.Below.MemoryLists.Unified.{unified_list, unified_region};
 ghost use Rattle.minidump.specs.Thread.{thread_of};
-ghost use Rattle.minidump.specs.ThreadText.{stack_of};
 ghost use Rattle.stack_walk.specs.Frames as walked;
 ghost use Rattle.stack_walk.specs.Frames.{stack_pointer_in};
 ghost use Rattle.stack_walk.specs.Threads.{exception_context, holds, process_of, stack_in};
@@ -108,18 +107,6 @@ fn exception_context(process: &Process<'_, '_>, id: u32) -> Option<MinidumpConte
     }
 }
 
-// Returns the stack of a thread: its own, or what the memory has at its start.
-fn own_stack<'l, 'a>(
-    memory: &'l UnifiedMemoryList<'a>,
-    thread: &'l MinidumpThread<'a>,
-) -> Option<UnifiedMemory<'l, 'a>>
-    ensures { option_map unified_region result ≡ stack_of (Some (unified_list memory.now))
-        (thread_of thread.now) }
-{
-    minidump::laws::a_report_has_what_a_lookup_returns();
-    thread.stack_memory(memory)
-}
-
 // Tells whether a region holds the byte at an address.
 fn holds(region: Option<UnifiedMemory<'_, '_>>, address: u64) -> bool
     ensures { result ≡ holds address (option_map unified_region region.entry) }
@@ -142,7 +129,7 @@ fn stack_memory<'l, 'a>(
     ensures { option_map unified_region result ≡ thread_stack (unified_list memory.now)
         (thread_of thread.now) stack_pointer }
 {
-    let own = own_stack(memory, thread);
+    let own = thread.stack_memory(memory);
     if holds(own, stack_pointer) {
         return own;
     }

@@ -1,20 +1,20 @@
 -- The frames are few.
 use Rattle.std.proofs.Common.{◌≡◌, ℕ, ◌+◌, ◌≤◌, List, [], ◌∷◌, length, false, Option, arith}
 use Rattle.minidump.specs.declared.MinidumpContext.{MinidumpContext}
+use Rattle.stack_walk.specs.Climb.{AreCallers, outermost}
 use Rattle.stack_walk.specs.Frames.{StackValue, stack_bytes}
 use Rattle.breakpad_symbols.specs.SymbolFile.{SymbolsValue}
 use Rattle.stack_walk.proofs.CallerLemmas.{end_of}
-use Rattle.symbol_walk.specs.Frames.{AreCallers}
 use Rattle.symbol_walk.specs.Registers.{register_table}
 use Rattle.symbol_walk.specs.Rules.{is_of_context}
 use Rattle.symbol_walk.specs.Unwinder.{FrameValue, UnwinderValue, first_frame}
-use Rattle.symbol_walk.specs.Walk.{callers_in, outermost, symbol_walk_in}
+use Rattle.symbol_walk.specs.Walk.{caller_of, callers_in, symbol_walk_in}
 use Rattle.symbol_walk.proofs.ReachLemmas.{reached, strictly, within_stack}
 use Rattle.symbol_walk.proofs.UpLemmas.{are_callers}
 
 -- callers of a frame that isn't a context's have addresses of their own
 callers_fit : (u : UnwinderValue) (f : FrameValue) (gs : List FrameValue) (last : FrameValue) → is_of_context f.frame.trust ≡ false
-    → f.frame.stack_pointer ≤ end_of u.stack → AreCallers u f gs last → length gs + f.frame.stack_pointer ≤ end_of u.stack
+    → f.frame.stack_pointer ≤ end_of u.stack → AreCallers (caller_of u) f gs last → length gs + f.frame.stack_pointer ≤ end_of u.stack
 callers_fit u f [] last other within are = omega (arith, within)
 callers_fit u f (g ∷ gs) last other within are =
     let r = reached u f g are.0 in
@@ -22,7 +22,7 @@ callers_fit u f (g ∷ gs) last other within are =
     let more = strictly u f.frame g.frame other r in
     let rest = callers_fit u g gs last r.found high are.1 in omega (arith, more, rest)
 
-few : (u : UnwinderValue) (f : FrameValue) (gs : List FrameValue) (last : FrameValue) → AreCallers u f gs last
+few : (u : UnwinderValue) (f : FrameValue) (gs : List FrameValue) (last : FrameValue) → AreCallers (caller_of u) f gs last
     → length gs ≤ length (stack_bytes u.stack) + 1
 few u f [] last are = omega arith
 few u f (g ∷ gs) last are =

@@ -1,11 +1,11 @@
 -- Registers whose values are known: one after another, and by a test of what they are.
-use Rattle.std.proofs.Common.{◌≡◌, ◌∙◌, ◌<◌, ◌≤◌, ◌+◌, ◌++◌, ◌∷◌, [], ℕ, List, Option, Some, None, Bool, true, false, ap, get_or, length, map, refl, sym, take}
-use Rattle.std.specs.Prelude.{cond}
+use Rattle.std.proofs.Common.{◌≡◌, ◌∙◌, ◌<◌, ◌≤◌, ◌+◌, ◌++◌, ◌∷◌, [], ℕ, List, Option, Some, None, Bool, ap, get_or, length, map, refl, sym, take}
 use Rattle.std.specs.List.{cons_option, filter_map, find}
 use Rattle.std.specs.Option.{option_and_then, option_map}
 use Rattle.std.specs.Str.{bytes_eq}
 use Rattle.std.proofs.lemmas.List.{map-append, take_all, take_more}
 use Rattle.std.proofs.lemmas.List.Elements.{filter_map-append}
+use Rattle.breakpad_symbols.proofs.NumberedLemmas.{find-map}
 use Rattle.symbol_walk.specs.declared.registers.KnownRegister.{KnownRegister}
 use Rattle.symbol_walk.specs.declared.registers.Register.{Register}
 use Rattle.symbol_walk.specs.Registers.{RegisterRow, is_frame_pointer, is_stack_pointer, known_by, known_frame_pointer, known_of, known_stack_pointer}
@@ -41,16 +41,6 @@ module _ (value : RegisterRow → Option ℕ) where
 
 -- ---- by a test
 
--- the first of views that passes a test
-pub find-map : {X Y : Type 0} (test : Y → Bool) (view : X → Y) (xs : List X) → find test (map view xs) ≡ option_map view (find (λ x. test (view x)) xs)
-find-map test view [] = refl
-find-map test view (x ∷ xs) = by (test (view x)) (find-map test view xs)
-  where
-    by : (b : Bool) → find test (map view xs) ≡ option_map view (find (λ x. test (view x)) xs)
-        → cond b (Some (view x)) (find test (map view xs)) ≡ option_map view (cond b (Some x) (find (λ x. test (view x)) xs))
-    by true more = refl
-    by false more = more
-
 value_of_view : (o : Option KnownRegister) → option_map (λ (k : List ℕ × ℕ). k.1) (option_map known_of o) ≡ option_map (λ (k : KnownRegister). k.value) o
 value_of_view None = refl
 value_of_view (Some k) = refl
@@ -59,7 +49,7 @@ value_of_view (Some k) = refl
 pub known_found : (ks : List KnownRegister) (name : List ℕ)
     → known_value (map known_of ks) name ≡ option_map (λ (k : KnownRegister). k.value) (find (λ (k : KnownRegister). bytes_eq k.name.now name) ks)
 known_found ks name =
-    ap (option_map (λ (k : List ℕ × ℕ). k.1)) (find-map (λ (k : List ℕ × ℕ). bytes_eq k.0 name) known_of ks)
+    ap (option_map (λ (k : List ℕ × ℕ). k.1)) (find-map known_of (λ (k : List ℕ × ℕ). bytes_eq k.0 name) ks)
     ∙ value_of_view (find (λ (k : KnownRegister). bytes_eq k.name.now name) ks)
 
 row_value : (known : List (List ℕ × ℕ)) (o : Option Register) → option_and_then (λ (r : RegisterRow). known_value known r.name) (option_map row_of o)
@@ -70,7 +60,7 @@ row_value known (Some r) = refl
 found_where : (test : RegisterRow → Bool) (rs : List Register) (known : List (List ℕ × ℕ))
     → value_where test (map row_of rs) known ≡ option_and_then (λ (r : Register). known_value known r.name.now) (find (λ (r : Register). test (row_of r)) rs)
 found_where test rs known =
-    ap (option_and_then (λ (r : RegisterRow). known_value known r.name)) (find-map test row_of rs)
+    ap (option_and_then (λ (r : RegisterRow). known_value known r.name)) (find-map row_of test rs)
     ∙ row_value known (find (λ (r : Register). test (row_of r)) rs)
 
 -- the value by the label

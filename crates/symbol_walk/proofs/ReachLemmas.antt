@@ -11,10 +11,10 @@ use Rattle.stack_walk.specs.declared.frame.FrameTrust.{FrameTrust}
 use Rattle.stack_walk.specs.declared.frame.FrameTrust.TheVariants.{Context, Cfi, FramePointer, Scan, Link}
 use Rattle.stack_walk.specs.declared.frame.StackFrame.{StackFrame}
 use Rattle.stack_walk.specs.Addresses.{address_after}
-use Rattle.stack_walk.specs.Frames.{StackValue, candidate_at, candidate_by, may_have_called, return_at, word_candidate, word_candidates}
+use Rattle.stack_walk.specs.Frames.{StackValue, candidate_at, candidate_by, return_at, word_candidate, word_candidates}
 use Rattle.stack_walk.specs.Frames.{caller_of as pointer_caller}
-use Rattle.stack_walk.specs.Lookups.{call_site}
 use Rattle.stack_walk.proofs.CallerLemmas.{base_of, climbs, end_of, failed, has_record, passed, step}
+use Rattle.stack_walk.proofs.EvidenceLemmas.{by_return}
 use Rattle.symbol_walk.specs.declared.rules.Return.{Return}
 use Rattle.symbol_walk.specs.Frames.{IsByRules}
 use Rattle.symbol_walk.specs.Registers.{known_by, known_frame_pointer, known_stack_pointer}
@@ -201,24 +201,6 @@ found_passes P test (x ∷ xs) y each e = by (test x) refl e (found_passes P tes
 abbrev IsScanned : StackFrame → Type 0
 IsScanned f = f.trust ≡ Scan
 
-by_return : (s : StackValue) (after address : ℕ) (f : StackFrame) → candidate_by s after address ≡ Some f → IsScanned f
-by_return s after address f e =
-    let call =
-    step (λ call. if may_have_called s call
-    then Some (record { instruction = address; stack_pointer = after; frame_pointer = None; trust = Scan })
-    else None) (call_site s.cpu address) f e
-    in
-    let code =
-    passed (may_have_called s call.0)
-    (Some (record { instruction = address; stack_pointer = after; frame_pointer = None; trust = Scan })) f call.2
-    in
-    let same : ◌≡◌ {A = Option StackFrame}
-    (Some (record { instruction = address; stack_pointer = after; frame_pointer = None; trust = Scan })) (Some f) =
-    code.1
-    in
-    let is : ◌≡◌ {A = StackFrame} (record { instruction = address; stack_pointer = after; frame_pointer = None; trust = Scan }) f = cc in
-    sym (ap (λ (x : StackFrame). x.trust) is)
-
 of_number : (s : StackValue) (number : ℕ) (f : StackFrame) → word_candidate s number ≡ Some f → IsScanned f
 unfolding word_candidate
 of_number s number f e =
@@ -226,7 +208,7 @@ of_number s number f e =
     let address = number * size.0 in
     let after = step (λ after. option_and_then (candidate_by s after) (return_at s address)) (address_after s.width address size.0) f size.2 in
     let returned = step (candidate_by s after.0) (return_at s address) f after.2 in
-    by_return s after.0 returned.0 f returned.2
+    sym (ap (λ (x : StackFrame). x.trust) (by_return s after.0 returned.0 f returned.2))
 
 each_scanned : (s : StackValue) (words : ℕ × ℕ) → Each IsScanned (word_candidates s words)
 each_scanned s words = each_given IsScanned (word_candidate s) (of_number s) (range_with_len words.0 words.1)

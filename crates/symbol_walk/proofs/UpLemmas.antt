@@ -1,5 +1,5 @@
 -- The callers of the function are those of the relation: going up the stack, each caller is met.
-use Rattle.std.proofs.Common.{◌≡◌, ◌∙◌, ℕ, zero, suc, ◌+◌, ◌<◌, ◌≤◌, List, [], ◌∷◌, ◌++◌, length, Bool, true, false, Option, Some, None}
+use Rattle.std.proofs.Common.{◌≡◌, ◌∙◌, ℕ, ◌+◌, ◌<◌, ◌≤◌, List, [], ◌∷◌, ◌++◌, length, Bool, true, false, Option, Some, None}
 use Rattle.std.proofs.Common.{refl, ap, sym, subst, arith, append_assoc, ◌⊎◌, inl, inr}
 use Rattle.std.specs.Prelude.{◌↔◌, ◌==◌, if◌then◌else◌}
 use Rattle.std.specs.List.{range_with_len}
@@ -7,10 +7,11 @@ use Rattle.std.specs.Option.{option_and_then, option_map_or}
 use Rattle.std.proofs.lemmas.Bool.{cases_lt}
 use Rattle.std.proofs.lemmas.Bool.Decides.{nat_tests}
 use Rattle.minidump.specs.Below.MemoryLists.Unified.{UnifiedRegion}
+use Rattle.stack_walk.specs.Climb.{AreCallers, callers_at, outermost}
 use Rattle.stack_walk.proofs.CallerLemmas.{base_of, end_of, passed, step}
-use Rattle.symbol_walk.specs.Frames.{AreCallers}
+use Rattle.stack_walk.proofs.ClimbLemmas.{callers_end, same_callers, up}
 use Rattle.symbol_walk.specs.Unwinder.{FrameValue, UnwinderValue}
-use Rattle.symbol_walk.specs.Walk.{caller_here, caller_of, callers_at, callers_in, outermost, pointers_to}
+use Rattle.symbol_walk.specs.Walk.{caller_here, caller_of, callers_in, pointers_to}
 use Rattle.symbol_walk.proofs.ReachLemmas.{reached, strictly, within_stack}
 
 -- no caller of a frame stands below an address
@@ -18,22 +19,6 @@ abbrev IsAhead : UnwinderValue → FrameValue → ℕ → Type 0
 IsAhead u f p = (g : FrameValue) → caller_of u f ≡ Some g → p ≤ g.frame.stack_pointer
 
 -- ---- a step
-
-callers_some : (u : UnwinderValue) (f g : FrameValue) (a : ℕ) (above : List ℕ) → caller_here u f a ≡ Some g
-    → callers_at u f (a ∷ above) ≡ g ∷ callers_at u g above
-unfolding callers_at
-callers_some u f g a above is =
-    ap (λ (o : Option FrameValue). option_map_or (λ caller. caller ∷ callers_at u caller above) o (callers_at u f above)) is
-
-callers_none : (u : UnwinderValue) (f : FrameValue) (a : ℕ) (above : List ℕ) → caller_here u f a ≡ None
-    → callers_at u f (a ∷ above) ≡ callers_at u f above
-unfolding callers_at
-callers_none u f a above is =
-    ap (λ (o : Option FrameValue). option_map_or (λ caller. caller ∷ callers_at u caller above) o (callers_at u f above)) is
-
-callers_end : (u : UnwinderValue) (f : FrameValue) → callers_at u f [] ≡ []
-unfolding callers_at
-callers_end u f = refl
 
 -- a frame whose caller stands at an address has it there
 here : (u : UnwinderValue) (f g : FrameValue) (a : ℕ) → caller_of u f ≡ Some g → g.frame.stack_pointer ≡ a → caller_here u f a ≡ Some g
@@ -52,8 +37,8 @@ met u f g a e =
     (found.1 ∙ ap Some same, sym (ap (λ (x : FrameValue). x.frame.stack_pointer) same) ∙ at)
 
 -- past an address at which none is met, no caller stands below the next one
-past : (u : UnwinderValue) (f : FrameValue) (p : ℕ) → IsAhead u f p → caller_here u f p ≡ None → IsAhead u f (p + 1)
-past u f p ahead none g is = go (cases_lt p g.frame.stack_pointer)
+past : (u : UnwinderValue) (f : FrameValue) (p : ℕ) → caller_here u f p ≡ None → IsAhead u f p → IsAhead u f (p + 1)
+past u f p none ahead g is = go (cases_lt p g.frame.stack_pointer)
   where
     go : (p < g.frame.stack_pointer) ⊎ (g.frame.stack_pointer ≤ p) → p + 1 ≤ g.frame.stack_pointer
     go (inl more) = omega (arith, more)
@@ -61,20 +46,12 @@ past u f p ahead none g is = go (cases_lt p g.frame.stack_pointer)
         let same : g.frame.stack_pointer ≡ p = omega (arith, few, ahead g is) in
         let k : None ≡ Some g = sym none ∙ here u f g p is same in cc
 
--- ---- the whole way up
-
-by_caller : (u : UnwinderValue) (f : FrameValue) (p : ℕ) (above : List ℕ) (o : Option FrameValue) → caller_here u f p ≡ o → IsAhead u f p
-    → ((g : FrameValue) → IsAhead u g (p + 1) → AreCallers u g (callers_at u g above) (outermost g (callers_at u g above)))
-    → AreCallers u f (callers_at u f (p ∷ above)) (outermost f (callers_at u f (p ∷ above)))
-by_caller u f p above None is ahead rest =
-    subst (λ (callers : List FrameValue). AreCallers u f callers (outermost f callers)) (sym (callers_none u f p above is)) (rest f (past u f p ahead is))
-by_caller u f p above (Some g) is ahead rest =
+-- where one is met, its own caller stands above
+next : (u : UnwinderValue) (f g : FrameValue) (p : ℕ) → caller_here u f p ≡ Some g → IsAhead u f p → (caller_of u f ≡ Some g) × IsAhead u g (p + 1)
+next u f g p is ahead =
     let both = met u f g p is in
     let r = reached u f g both.0 in
-    let next : IsAhead u g (p + 1) = λ h caller.
-    let more = strictly u g.frame h.frame r.found (reached u g h caller) in omega (arith, both.1, more)
-    in
-    subst (λ (callers : List FrameValue). AreCallers u f callers (outermost f callers)) (sym (callers_some u f g p above is)) (both.0, rest g next)
+    (both.0, λ h caller. let more = strictly u g.frame h.frame r.found (reached u g h caller) in omega (arith, both.1, more))
 
 no_caller : (u : UnwinderValue) (f : FrameValue) (o : Option FrameValue) → caller_of u f ≡ o → IsAhead u f (end_of u.stack + 1) → caller_of u f ≡ None
 no_caller u f None is ahead = is
@@ -82,14 +59,7 @@ no_caller u f (Some g) is ahead =
     let r = reached u f g is in
     let high = (within_stack u.stack g.frame.stack_pointer r.on).1 in absurd (omega (arith, ahead g is, high))
 
-up : (u : UnwinderValue) (n p : ℕ) (f : FrameValue) → p + n ≡ end_of u.stack + 1 → IsAhead u f p
-    → AreCallers u f (callers_at u f (range_with_len p n)) (outermost f (callers_at u f (range_with_len p n)))
-up u zero p f is ahead =
-    let end : p ≡ end_of u.stack + 1 = omega (arith, is) in
-    subst (λ (callers : List FrameValue). AreCallers u f callers (outermost f callers)) (sym (callers_end u f))
-    (no_caller u f (caller_of u f) refl (subst (λ (q : ℕ). IsAhead u f q) end ahead), refl)
-up u (suc n) p f is ahead =
-    by_caller u f p (range_with_len (p + 1) n) (caller_here u f p) refl ahead (λ g next. up u n (p + 1) g (omega (arith, is)) next)
+-- ---- the whole way up
 
 -- without memory of the stack there is no caller
 nowhere : (u : UnwinderValue) (f : FrameValue) (o : Option FrameValue) → u.stack.region ≡ None → caller_of u f ≡ o → caller_of u f ≡ None
@@ -99,17 +69,17 @@ nowhere u f (Some g) none is =
     let k : false ≡ true = (rw none at r.on) in cc
 
 -- the callers of the function are those of the relation
-pub are_callers : (u : UnwinderValue) (f : FrameValue) → AreCallers u f (callers_in u f) (outermost f (callers_in u f))
+pub are_callers : (u : UnwinderValue) (f : FrameValue) → AreCallers (caller_of u) f (callers_in u f) (outermost f (callers_in u f))
 are_callers u f = by u.stack.region refl
   where
-    by : (region : Option UnifiedRegion) → u.stack.region ≡ region → AreCallers u f (callers_in u f) (outermost f (callers_in u f))
+    by : (region : Option UnifiedRegion) → u.stack.region ≡ region → AreCallers (caller_of u) f (callers_in u f) (outermost f (callers_in u f))
     by None is =
-        let none : callers_in u f ≡ [] = ap (λ (o : Option UnifiedRegion). callers_at u f (option_map_or pointers_to o [])) is ∙ callers_end u f in
-        subst (λ (callers : List FrameValue). AreCallers u f callers (outermost f callers)) (sym none)
+        let none : callers_in u f ≡ [] = ap (λ (o : Option UnifiedRegion). callers_at (caller_here u) f (option_map_or pointers_to o [])) is ∙ callers_end (caller_here u) f in
+        subst (λ (callers : List FrameValue). AreCallers (caller_of u) f callers (outermost f callers)) (sym none)
         (nowhere u f (caller_of u f) is refl, refl)
     by (Some r) is =
-        let list : callers_in u f ≡ callers_at u f (range_with_len r.base_address (length r.bytes + 1)) =
-        ap (λ (o : Option UnifiedRegion). callers_at u f (option_map_or pointers_to o [])) is
+        let list : callers_in u f ≡ callers_at (caller_here u) f (range_with_len r.base_address (length r.bytes + 1)) =
+        ap (λ (o : Option UnifiedRegion). callers_at (caller_here u) f (option_map_or pointers_to o [])) is
         in
         let end : end_of u.stack ≡ r.base_address + length r.bytes =
         ap (λ (o : Option UnifiedRegion). option_map_or (λ r. r.base_address) o 0 + length (option_map_or (λ r. r.bytes) o [])) is
@@ -118,43 +88,33 @@ are_callers u f = by u.stack.region refl
         let ahead : IsAhead u f r.base_address = λ g caller.
         let low = (within_stack u.stack g.frame.stack_pointer (reached u f g caller).on).0 in omega (arith, low, base)
         in
-        subst (λ (callers : List FrameValue). AreCallers u f callers (outermost f callers)) (sym list)
-        (up u (length r.bytes + 1) r.base_address f (omega (arith, end)) ahead)
+        subst (λ (callers : List FrameValue). AreCallers (caller_of u) f callers (outermost f callers)) (sym list)
+        (up (caller_of u) (caller_here u) (IsAhead u) (end_of u.stack + 1) (next u) (past u) (λ g done. no_caller u g (caller_of u g) refl done)
+        (length r.bytes + 1) r.base_address f (omega (arith, end)) ahead)
 
 -- ---- and the only ones
 
-same_callers : (u : UnwinderValue) (f : FrameValue) (xs ys : List FrameValue) (l m : FrameValue) → AreCallers u f xs l → AreCallers u f ys m
-    → (ys ≡ xs) × (m ≡ l)
-same_callers u f [] [] l m x y = (refl, y.1 ∙ sym x.1)
-same_callers u f [] (g ∷ ys) l m x y = (let k : None ≡ Some g = sym x.0 ∙ y.0 in cc)
-same_callers u f (g ∷ xs) [] l m x y = (let k : None ≡ Some g = sym y.0 ∙ x.0 in cc)
-same_callers u f (g ∷ xs) (h ∷ ys) l m x y =
-    let k : Some g ≡ Some h = sym x.0 ∙ y.0 in
-    let same : h ≡ g = cc in
-    let rest = same_callers u g xs ys l m x.1 (subst (λ (z : FrameValue). AreCallers u z ys m) same y.1) in
-    (cc (rest.0, same), rest.1)
-
 -- callers by the relation are those of the function
-pub callers_are : (u : UnwinderValue) (f : FrameValue) (callers : List FrameValue) (last : FrameValue) → AreCallers u f callers last
+pub callers_are : (u : UnwinderValue) (f : FrameValue) (callers : List FrameValue) (last : FrameValue) → AreCallers (caller_of u) f callers last
     → (callers ≡ callers_in u f) × (last ≡ outermost f (callers_in u f))
-callers_are u f callers last are = same_callers u f (callers_in u f) callers (outermost f (callers_in u f)) last (are_callers u f) are
+callers_are u f callers last are = same_callers (caller_of u) f (callers_in u f) callers (outermost f (callers_in u f)) last (are_callers u f) are
 
 -- and only these
 pub callers_by : (u : UnwinderValue) (f : FrameValue) (callers : List FrameValue) (last : FrameValue)
-    → AreCallers u f callers last ↔ ((callers ≡ callers_in u f) × (last ≡ outermost f (callers_in u f)))
+    → AreCallers (caller_of u) f callers last ↔ ((callers ≡ callers_in u f) × (last ≡ outermost f (callers_in u f)))
 callers_by u f callers last = (
   callers_are u f callers last,
   λ is.
-      subst (λ (gs : List FrameValue). AreCallers u f gs last) (sym is.0)
-      (subst (λ (l : FrameValue). AreCallers u f (callers_in u f) l) (sym is.1) (are_callers u f)),
+      subst (λ (gs : List FrameValue). AreCallers (caller_of u) f gs last) (sym is.0)
+      (subst (λ (l : FrameValue). AreCallers (caller_of u) f (callers_in u f) l) (sym is.1) (are_callers u f)),
 )
 
 -- ---- a walk, a caller at a time
 
 -- the frames so far, before the last one and its callers, are a walk from the first
 pub record Walking (u : UnwinderValue) (first last : FrameValue) (done : List FrameValue) : Type 0 where
-  pub whole : (rest : List FrameValue) (end : FrameValue) → AreCallers u last rest end
-      → (callers : List FrameValue) × (done ++ (last ∷ rest) ≡ first ∷ callers) × AreCallers u first callers end
+  pub whole : (rest : List FrameValue) (end : FrameValue) → AreCallers (caller_of u) last rest end
+      → (callers : List FrameValue) × (done ++ (last ∷ rest) ≡ first ∷ callers) × AreCallers (caller_of u) first callers end
 
 pub walking_one : (u : UnwinderValue) (first : FrameValue) (done : List FrameValue) → done ≡ [] → Walking u first first done
 walking_one u first done is = record { whole = λ rest end are. (rest, ap (λ d. d ++ (first ∷ rest)) is, are) }

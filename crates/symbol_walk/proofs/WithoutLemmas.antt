@@ -7,25 +7,24 @@ use Rattle.minidump.specs.declared.MinidumpContext.{MinidumpContext}
 use Rattle.minidump.specs.Below.Modules.Module.{ModuleValue}
 use Rattle.minidump.specs.Below.System.Cpu.{pointer_bytes}
 use Rattle.stack_walk.specs.declared.frame.StackFrame.{StackFrame}
+use Rattle.stack_walk.specs.Climb.{AreCallers, outermost}
 use Rattle.stack_walk.specs.Frames.{StackValue, link_in, scan, word_candidates}
-use Rattle.stack_walk.specs.Frames.{AreCallers as ArePointerCallers}
 use Rattle.stack_walk.specs.Frames.{caller_of as pointer_caller}
 use Rattle.stack_walk.specs.Lookups.{lookup_address, module_place}
 use Rattle.stack_walk.specs.Walk.{callers_in as pointer_callers}
-use Rattle.stack_walk.specs.Walk.{outermost as pointer_last}
 use Rattle.stack_walk.specs.Walk.{walk_in}
 use Rattle.stack_walk.specs.WalkEnd.{walk_end}
 use Rattle.stack_walk.proofs.UpLemmas.{walk_is}
 use Rattle.breakpad_symbols.specs.SymbolFile.{SymbolsValue}
 use Rattle.symbol_walk.specs.declared.walk.SymbolWalkEnd.{SymbolWalkEnd}
 use Rattle.symbol_walk.specs.declared.walk.SymbolWalkEnd.TheVariants.{Walk}
-use Rattle.symbol_walk.specs.Frames.{AreCallers, HaveNone}
+use Rattle.symbol_walk.specs.Frames.{HaveNone}
 use Rattle.symbol_walk.specs.Registers.{register_table}
 use Rattle.symbol_walk.specs.Rules.{address_bits, caller_by, end_by, goes_on, rules_at, rules_by}
 use Rattle.symbol_walk.specs.Scan.{in_function, is_called, next_words, restart_of, restarts}
 use Rattle.symbol_walk.specs.Symbols.{has_function, symbols_at, symbols_of_module}
 use Rattle.symbol_walk.specs.Unwinder.{FrameValue, UnwinderValue, first_frame, pointer_frame}
-use Rattle.symbol_walk.specs.Walk.{caller_by_rules, caller_of, caller_without, callers_in, end_by_rules, outermost, symbol_walk_in}
+use Rattle.symbol_walk.specs.Walk.{caller_by_rules, caller_of, caller_without, callers_in, end_by_rules, symbol_walk_in}
 use Rattle.symbol_walk.proofs.ReachLemmas.{mapped}
 use Rattle.symbol_walk.proofs.UpLemmas.{are_callers}
 
@@ -117,8 +116,8 @@ not_mapped : {A B : Type 0} (f : A → B) (o : Option A) → option_map f o ≡ 
 not_mapped f None e = refl
 not_mapped f (Some x) e = cc
 
-as_pointers : (u : UnwinderValue) (f : FrameValue) (gs : List FrameValue) (last : FrameValue) → HaveNone u.symbols → AreCallers u f gs last
-    → ArePointerCallers u.stack f.frame (map (λ (g : FrameValue). g.frame) gs) last.frame
+as_pointers : (u : UnwinderValue) (f : FrameValue) (gs : List FrameValue) (last : FrameValue) → HaveNone u.symbols
+    → AreCallers (caller_of u) f gs last → AreCallers (pointer_caller u.stack) f.frame (map (λ (g : FrameValue). g.frame) gs) last.frame
 as_pointers u f [] last none are =
     (not_mapped (pointer_frame u) (pointer_caller u.stack f.frame) (sym (caller_is u f none) ∙ are.0), ap (λ (g : FrameValue). g.frame) are.1)
 as_pointers u f (g ∷ gs) last none are =
@@ -132,7 +131,7 @@ frames_of fs = map (λ (f : FrameValue). f.frame) fs
 -- the frames from one on, and the last of them
 pub pointers_alone : (u : UnwinderValue) (first : FrameValue) → HaveNone u.symbols
     → (frames_of (first ∷ callers_in u first) ≡ first.frame ∷ pointer_callers u.stack first.frame)
-    × ((outermost first (callers_in u first)).frame ≡ pointer_last first.frame (pointer_callers u.stack first.frame))
+    × ((outermost first (callers_in u first)).frame ≡ outermost first.frame (pointer_callers u.stack first.frame))
 pointers_alone u first none =
     let callers = callers_in u first in
     let last = outermost first callers in

@@ -1,18 +1,11 @@
--- The frames of a walk as a relation, and what is known of each.
-use Rattle.std.specs.Prelude.{◌≡◌, ℕ, List, [], ◌∷◌, Option, Some, None}
+-- What is known of the frames of a walk.
+use Rattle.std.specs.Prelude.{◌≡◌, ℕ, List, Option, Some, None}
 use Rattle.breakpad_symbols.specs.SymbolFile.{SymbolsValue}
 use Rattle.symbol_walk.specs.declared.rules.Return.{Return}
 use Rattle.symbol_walk.specs.Registers.{known_by}
 use Rattle.symbol_walk.specs.Rules.{RulesValue, caller_value, returns, rules_at}
 use Rattle.symbol_walk.specs.Symbols.{symbols_of_module}
 use Rattle.symbol_walk.specs.Unwinder.{FrameValue, UnwinderValue}
-use Rattle.symbol_walk.specs.Walk.{caller_of}
-
--- the callers of a frame, the innermost first: each is the caller of the one before it, and the
--- last frame has none
-abbrev pub AreCallers : UnwinderValue → FrameValue → List FrameValue → FrameValue → Type 0
-AreCallers u f [] last = (caller_of u f ≡ None) × (last ≡ f)
-AreCallers u f (g ∷ gs) last = (caller_of u f ≡ Some g) × AreCallers u g gs last
 
 -- a frame is the caller of another by its rules: these return to its instruction, and its registers
 -- have the values that they and the calling convention give by those of the callee

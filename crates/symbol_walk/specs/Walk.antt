@@ -6,6 +6,7 @@ use Rattle.std.specs.Option.{option_and_then, option_map, option_map_or, option_
 use Rattle.minidump.specs.declared.MinidumpContext.{MinidumpContext}
 use Rattle.minidump.specs.Below.MemoryLists.Unified.{UnifiedRegion}
 use Rattle.stack_walk.specs.declared.frame.StackFrame.{StackFrame}
+use Rattle.stack_walk.specs.Climb.{callers_at, outermost}
 use Rattle.stack_walk.specs.Frames.{StackValue, link_in, scan}
 use Rattle.stack_walk.specs.Frames.{caller_of as pointer_caller}
 use Rattle.stack_walk.specs.WalkEnd.{walk_end}
@@ -50,14 +51,6 @@ abbrev pub caller_here : UnwinderValue → FrameValue → ℕ → Option FrameVa
 caller_here u f address = option_and_then (λ caller.
     if caller.frame.stack_pointer == address then Some caller else None) (caller_of u f)
 
--- the callers of a frame whose stack pointers are among these ascending addresses: the one at the
--- first, and its callers at the addresses above; where there is none, those at the addresses above
-unfoldable pub callers_at : UnwinderValue → FrameValue → List ℕ → List FrameValue
-callers_at u f [] = []
-callers_at u f (address ∷ above) =
-    option_map_or (λ caller. caller ∷ callers_at u caller above) (caller_here u f address)
-    (callers_at u f above)
-
 -- the addresses of a region and the one after it, ascending
 abbrev pub pointers_to : UnifiedRegion → List ℕ
 pointers_to region = range_with_len region.base_address (length region.bytes + 1)
@@ -66,14 +59,9 @@ pointers_to region = range_with_len region.base_address (length region.bytes + 1
 abbrev pub stack_pointers : StackValue → List ℕ
 stack_pointers s = option_map_or pointers_to s.region []
 
--- the callers of a frame, the innermost first
+-- the callers of a frame, the innermost first: those whose stack pointers are among these
 abbrev pub callers_in : UnwinderValue → FrameValue → List FrameValue
-callers_in u f = callers_at u f (stack_pointers u.stack)
-
--- the last of a frame and its callers
-abbrev pub outermost : FrameValue → List FrameValue → FrameValue
-outermost f [] = f
-outermost f (caller ∷ callers) = outermost caller callers
+callers_in u f = callers_at (caller_here u) f (stack_pointers u.stack)
 
 -- ---- the walk
 

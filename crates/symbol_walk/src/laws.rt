@@ -3,13 +3,14 @@
 ghost use Rattle.std.specs.Prelude.{◌≡◌, ◌↔◌, ◌≤◌, ◌+◌, ℕ, List, Option, Some, length, map};
 ghost use Rattle.minidump.specs.declared.MinidumpContext.{MinidumpContext};
 ghost use Rattle.stack_walk.specs.declared.frame.FrameTrust.TheVariants.{Cfi};
+ghost use Rattle.stack_walk.specs.Climb.{AreCallers, outermost};
 ghost use Rattle.stack_walk.specs.Frames.{StackValue, stack_bytes};
 ghost use Rattle.stack_walk.specs.Walk.{walk_in};
 ghost use Rattle.breakpad_symbols.specs.SymbolFile.{SymbolsValue};
 ghost use Rattle.symbol_walk.specs.declared.walk.SymbolWalkEnd.TheVariants.{Walk};
-ghost use Rattle.symbol_walk.specs.Frames.{AreCallers, HaveNone, IsByRules};
+ghost use Rattle.symbol_walk.specs.Frames.{HaveNone, IsByRules};
 ghost use Rattle.symbol_walk.specs.Unwinder.{FrameValue, UnwinderValue};
-ghost use Rattle.symbol_walk.specs.Walk.{caller_of, callers_in, outermost, symbol_walk_in};
+ghost use Rattle.symbol_walk.specs.Walk.{caller_of, callers_in, symbol_walk_in};
 
 /// Without symbols the frames, the candidates and the end are those of [`stack_walk`].
 pub fn without_symbols_a_walk_is_by_frame_pointers()
@@ -29,7 +30,7 @@ pub fn without_symbols_a_walk_is_by_frame_pointers()
 /// none.
 pub fn one_list_of_callers()
     ensures { (u : UnwinderValue) (f : FrameValue) (callers : List FrameValue) (last : FrameValue)
-        → AreCallers u f callers last
+        → AreCallers (caller_of u) f callers last
         ↔ ((callers ≡ callers_in u f) × (last ≡ outermost f (callers_in u f))) }
 {}
 

@@ -43,8 +43,8 @@
 //!
 //! - A walk is the one that the definition `symbol_walk_in` assigns to a stack, the symbols of the
 //!   modules and a context: [`walk_by_symbols`]. Out of memory is an error, never a shorter list.
-//! - Its callers are those of `AreCallers`, and the only ones: each is the caller of the frame before
-//!   it, and the last frame has none: [`laws::one_list_of_callers`].
+//! - Its callers are those of `AreCallers`, which is `stack_walk`'s, and the only ones: each is the
+//!   caller of the frame before it, and the last frame has none: [`laws::one_list_of_callers`].
 //! - A frame by rules has the instruction and the registers that the rules of its callee give:
 //!   [`laws::rules_give_the_registers`].
 //! - The walk ends on every stack, and its length is bounded by that of the stack:

@@ -1,12 +1,13 @@
 //! The walk of a context.
 ghost use Rattle.std.specs.Prelude.{◌≡◌, ◌++◌, ◌∷◌, [], IfOk, IsOkUnless, map};
 ghost use Rattle.std.specs.Option.{option_map};
+ghost use Rattle.stack_walk.specs.Climb.{outermost};
 ghost use Rattle.stack_walk.specs.Frames.{stack_of};
 ghost use Rattle.breakpad_symbols.specs.SymbolFile.{symbols_of};
 ghost use Rattle.symbol_walk.specs.Unwinder.{frame_of, unwinder_of};
 ghost use Rattle.symbol_walk.specs.Walk.{caller_by_rules, caller_of, caller_without, callers_in};
-ghost use Rattle.symbol_walk.specs.Walk.{end_by_rules, end_of, outermost, symbol_walk_in};
-ghost use Rattle.symbol_walk.specs.Walk.{plain_frames, symbol_walk_of, walk_from};
+ghost use Rattle.symbol_walk.specs.Walk.{end_by_rules, end_of, plain_frames, symbol_walk_in};
+ghost use Rattle.symbol_walk.specs.Walk.{symbol_walk_of, walk_from};
 
 use crate::KnownFrame;
 use crate::registers::register_table;

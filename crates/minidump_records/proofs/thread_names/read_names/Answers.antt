@@ -8,7 +8,7 @@ use Rattle.std.specs.Option.{option_map}
 use Rattle.minidump_bytes.specs.Source.{bytes_of}
 use Rattle.minidump_bytes.proofs.ListLemmas.{filtered_more, filtered_skip}
 use Rattle.minidump_records.specs.ThreadNames.{ThreadName, is_unreadable, thread_name_in}
-use Rattle.minidump_records.proofs.ThreadLemmas.{counted_more, has_all, has_more}
+use Rattle.minidump_records.proofs.ThreadLemmas.{at_most_one, counted_more, has_all, has_more}
 use Rattle.minidump_records.proofs.thread_names.read_names.Goals as goal
 use Rattle.minidump_records.proofs.thread_names.read_names.Goals.{in-Some+in_ok-put_name-in-Some, in-None}
 
@@ -43,9 +43,9 @@ loop-index-preserved c =
           in
           rw w.names-is (record {
             last = rw (filtered_skip name_in xs i raw inside (rw c.read-raw.ensures.value is)) c.loop-index.invariant.last;
-            counted = rw (w.unreadable-is, w.unless_zero-unreadable.ensures.count, c.loop-index.invariant.counted)
-                (sym (counted_more unreadable xs i raw (raw.thread_name_rva == 0) inside c.read-raw.ensures.value read));
-            bounded = omega (arith, w.unreadable-is, w.unless_zero-unreadable.ensures.few, c.loop-index.invariant.bounded);
+            counted = rw (w.unreadable-is, w.from-unreadable.ensures, c.loop-index.invariant.counted)
+                (sym (counted_more unreadable xs i raw (not (raw.thread_name_rva == 0)) inside c.read-raw.ensures.value read));
+            bounded = omega (arith, w.unreadable-is, w.from-unreadable.ensures, at_most_one (not (raw.thread_name_rva == 0)), c.loop-index.invariant.bounded);
             reads = omega (arith, c.read-raw.ensures.step, c.read_name.ensures.step, c.loop-index.invariant.reads);
           })
     ]

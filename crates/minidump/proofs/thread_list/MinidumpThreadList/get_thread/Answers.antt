@@ -1,12 +1,19 @@
 -- The first thread of an id from the end on is the last one.
-use Rattle.std.proofs.Common.{ap, map, subst, sym, ◌∙◌}
-use Rattle.std.specs.Option.{option_map}
-use Rattle.minidump.proofs.ThreadLemmas.{found_as_value, found_is_last}
+use Rattle.std.proofs.Common.{ap, map, subst, sym, ◌≡◌, ◌∙◌}
+use Rattle.std.specs.Prelude.{◌==◌}
+use Rattle.std.specs.Option.{option_copied, option_map}
+use Rattle.minidump.specs.Crash.{last_with}
 use Rattle.minidump.specs.Thread.{IsLastThread, thread_of}
+use Rattle.minidump.proofs.CrashLemmas.{last_seen}
+use Rattle.minidump.proofs.ThreadLemmas.{found_is_last}
 use Rattle.minidump.proofs.thread_list.MinidumpThreadList.get_thread.Goals as goal
 
-pub returns : goal.returns
-returns c =
-    let threads = c.args.self.now.threads.items in
-    subst (IsLastThread c.args.id (map thread_of threads)) (sym
-    (ap (option_map thread_of) c.first_from_the_end.ensures ∙ found_as_value c.args.id threads)) (found_is_last c.args.id (map thread_of threads))
+pub returns-clause-answer : goal.returns-clause-answer
+returns-clause-answer c =
+    ap (option_map thread_of) c.first_from_the_end.ensures ∙ last_seen thread_of (λ t. t.raw.thread_id == c.args.id) c.args.self.now.threads.items
+
+pub returns-clause-last : goal.returns-clause-last
+returns-clause-last c =
+    let threads = map thread_of c.args.self.now.threads.items in
+    let is : option_map thread_of (option_copied c.first_from_the_end.result) ≡ last_with c.args.id threads = returns-clause-answer c in
+    subst (IsLastThread c.args.id threads) (sym is) (found_is_last c.args.id threads)
