@@ -2,8 +2,7 @@
 use Rattle.std.specs.Prelude.{◌==◌, ◌&&◌, Bool, is_none, not, Option, Some, None, if◌then◌else◌}
 use Rattle.std.specs.Option.{option_map}
 use Rattle.minidump.specs.declared.format.MINIDUMP_MEMORY_DESCRIPTOR.{MINIDUMP_MEMORY_DESCRIPTOR}
-use Rattle.minidump.specs.Thread.{Thread}
-use Rattle.minidump.specs.ThreadText.{stack_of}
+use Rattle.minidump.specs.Thread.{Thread, stack_of}
 use Rattle.crash.specs.declared.stacks.StackRange.{StackRange}
 use Rattle.crash.specs.Contents.{ContentsValue}
 

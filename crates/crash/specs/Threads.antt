@@ -14,9 +14,8 @@ use Rattle.minidump.specs.Below.MemoryLists.Unified.{UnifiedRegions}
 use Rattle.minidump.specs.Below.Reasons.Names.{Lists}
 use Rattle.minidump.specs.Below.Reasons.ReasonText.{reason_text}
 use Rattle.minidump.specs.Below.Records.ThreadNames.{ThreadNames, name_of_thread}
-use Rattle.minidump.specs.Crash.{error_in, last_with}
 use Rattle.minidump.specs.Exception.{Exception}
-use Rattle.minidump.specs.Thread.{Thread, last_error_address}
+use Rattle.minidump.specs.Thread.{Thread, error_in, last_error_address, last_with}
 use Rattle.stack_walk.specs.Frames.{StackValue}
 use Rattle.crash.specs.declared.contexts.ContextProblem.{ContextProblem}
 use Rattle.crash.specs.declared.contexts.ShortContext.{ShortContext}

@@ -13,14 +13,12 @@ use Rattle.minidump.specs.Below.Reasons.Reason.{crash_reason}
 use Rattle.minidump.specs.Below.Reasons.ReasonText.{reason_text}
 use Rattle.minidump.specs.Below.System.Reads.{and_then}
 use Rattle.minidump.specs.Below.System.System.{System}
-use Rattle.minidump.specs.Crash.{last_with}
 use Rattle.minidump.specs.Dump.{Dump, dump_in, dump_system, stream_of}
 use Rattle.minidump.specs.Exception.{Exception, crash_address}
 use Rattle.minidump.specs.Memory.{memories_of_dump}
 use Rattle.minidump.specs.Modules.{modules_of_dump}
 use Rattle.minidump.specs.Promise.{exception_stream, thread_list_stream}
-use Rattle.minidump.specs.Thread.{Thread, instruction_of, known_context}
-use Rattle.minidump.specs.ThreadText.{stack_of}
+use Rattle.minidump.specs.Thread.{Thread, instruction_of, known_context, last_with, stack_of}
 use Rattle.crash_summary.specs.declared.CrashSummary.{CrashSummary}
 use Rattle.crash_summary.specs.declared.ModuleHit.{ModuleHit}
 use Rattle.crash_summary.specs.declared.StackHit.{StackHit}

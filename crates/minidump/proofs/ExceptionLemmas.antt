@@ -15,7 +15,7 @@ use Rattle.minidump.specs.Dump.{Dump, bytes_of_span, stream_of}
 use Rattle.minidump.specs.Exception.{exception_stream}
 use Rattle.minidump.specs.Exceptions.{exception_of_entry, exceptions_in}
 use Rattle.minidump.specs.Streams.{entries_of}
-use Rattle.minidump.proofs.CrashLemmas.{last_seen}
+use Rattle.minidump.proofs.ThreadLemmas.{last_seen}
 use Rattle.minidump.proofs.DirectoryLemmas.{length-with_indices}
 use Rattle.minidump.proofs.EntryLemmas.{stream_by_bytes}
 

@@ -2,7 +2,7 @@
 use Rattle.std.proofs.Common.{◌≡◌, ◌≢◌, ℕ, Bool, true, false, cond, List, [], ◌∷◌, ◌++◌, length, map, reverse, Ok, Option, Some, None, refl, ap, sym, ◌∙◌}
 use Rattle.std.proofs.Common.{arith}
 use Rattle.std.specs.Prelude.{find, ◌==◌, All, ◌↔◌}
-use Rattle.std.specs.Option.{option_or}
+use Rattle.std.specs.Option.{option_map, option_or}
 use Rattle.std.proofs.lemmas.Bool.{eqb-true, ne_eqb, eq-eqb}
 use Rattle.std.proofs.lemmas.List.{length-map, reverse-append}
 use Rattle.std.proofs.lemmas.List.Elements.{All-cons, All-head, All-tail}
@@ -44,6 +44,20 @@ module _ {X : Type 0} (p : X → Bool) where
   last_passes earlier later x passes fail =
       ap (find p) (reverse-append earlier (x ∷ later)) ∙ find-append p (reverse (x ∷ later)) (reverse earlier)
       ∙ rw (last-cons x later, all_fail later fail, passes) refl
+
+module _ {A B : Type 0} (f : A → B) (p : B → Bool) where
+  either : (o : Option A) (found : Option B) (b : Bool) (x : A) → option_map f o ≡ found
+      → option_map f (option_or o (cond b (Some x) None)) ≡ option_or found (cond b (Some (f x)) None)
+  either (Some y) found b x same = rw (← same) refl
+  either None found true x same = rw (← same) refl
+  either None found false x same = rw (← same) refl
+
+  -- the last item that passes a test, seen by a view
+  pub last_seen : (xs : List A) → option_map f (find (λ x. p (f x)) (reverse xs)) ≡ find p (reverse (map f xs))
+  last_seen [] = refl
+  last_seen (x ∷ xs) =
+      rw (last-cons (λ y. p (f y)) x xs, last-cons p (f x) (map f xs))
+      (either (find (λ y. p (f y)) (reverse xs)) (find p (reverse (map f xs))) (p (f x)) x (last_seen xs))
 
 module _ {X : Type 0} (key : X → ℕ) where
   -- the last of a key

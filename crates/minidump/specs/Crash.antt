@@ -1,12 +1,9 @@
 -- The last lines of a report: where and why a process crashed.
-use Rattle.std.specs.Prelude.{ℕ, ◌==◌, List, [], ◌∷◌, ◌++◌, codes, find, reverse, Option, Some, None}
+use Rattle.std.specs.Prelude.{ℕ, List, [], ◌∷◌, ◌++◌, codes, Option, Some, None}
 use Rattle.std.specs.List.{concat}
 use Rattle.std.specs.Option.{option_and_then}
 use Rattle.std.specs.Result.{result_ok}
 use Rattle.minidump_bytes.specs.Piece.{hex}
-use Rattle.minidump_index.specs.Lookup.{looked_up}
-use Rattle.minidump_memory.specs.Memory.{range_of_region}
-use Rattle.minidump_memory.specs.Unified.{UnifiedRegions, unified_regions}
 use Rattle.minidump_reason.specs.declared.reason.CrashReason.{CrashReason}
 use Rattle.minidump_reason.specs.Names.{Lists}
 use Rattle.minidump_reason.specs.Reason.{crash_reason}
@@ -18,17 +15,7 @@ use Rattle.minidump.specs.Dump.{Dump, dump_system, stream_of}
 use Rattle.minidump.specs.Exception.{Exception, crash_address}
 use Rattle.minidump.specs.Memory.{memories_of_dump}
 use Rattle.minidump.specs.Promise.{exception_stream, thread_list_stream}
-use Rattle.minidump.specs.Thread.{Thread, error_at, last_error_address}
-
--- the error at an address of a list of memory
-abbrev pub error_in : Lists → UnifiedRegions → Option ℕ → Option CrashReason
-error_in names memory None = None
-error_in names memory (Some address) =
-    error_at names address (looked_up range_of_region (unified_regions memory) address)
-
--- the last thread of an id
-abbrev pub last_with : ℕ → List Thread → Option Thread
-last_with id threads = find (λ t. t.raw.thread_id == id) (reverse threads)
+use Rattle.minidump.specs.Thread.{error_in, last_error_address, last_with}
 
 -- the last error of the last thread of an id, where the threads and the memory can be read
 abbrev pub last_error_of : Lists → Dump → Cpu → ℕ → Option CrashReason

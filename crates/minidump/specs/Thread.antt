@@ -1,7 +1,7 @@
 -- The threads of a minidump: Microsoft's MINIDUMP_THREAD_LIST, with the context and the stack of
 -- each.
 use Rattle.std.specs.Prelude.{◌≡◌, ◌≢◌, ℕ, ◌+◌, All, List, ◌∷◌, ◌++◌, map, Option, Some, None, Result, Ok}
-use Rattle.std.specs.Prelude.{if◌then◌else◌, nat_lt, ◌*◌, ◌^◌, IsOkAnd}
+use Rattle.std.specs.Prelude.{if◌then◌else◌, nat_lt, ◌*◌, ◌^◌, ◌==◌, IsOkAnd, find, reverse}
 use Rattle.std.specs.Prelude.{◌<◌, length}
 use Rattle.std.specs.List.{sum_by}
 use Rattle.std.specs.Option.{option_and_then, option_copied, option_map}
@@ -15,7 +15,7 @@ use Rattle.minidump_format.specs.declared.format.thread.MINIDUMP_THREAD.{MINIDUM
 use Rattle.minidump_format.specs.Header.{located}
 use Rattle.minidump_format.specs.StreamType.{number_of}
 use Rattle.minidump_format.specs.Thread.{thread}
-use Rattle.minidump_index.specs.Lookup.{IsLookedUp}
+use Rattle.minidump_index.specs.Lookup.{IsLookedUp, looked_up}
 use Rattle.minidump_system.specs.StreamSpec.{StreamSpec}
 use Rattle.minidump_system.specs.System.{System}
 use Rattle.minidump_system.specs.declared.cpu.Cpu.{Cpu}
@@ -89,6 +89,10 @@ IsLastThread id threads (Some last) =
     (earlier later : List Thread) × (threads ≡ earlier ++ (last ∷ later)) × (last.raw.thread_id ≡ id)
     × All (λ t. t.raw.thread_id ≢ id) later
 
+-- the same thread, as a function
+abbrev pub last_with : ℕ → List Thread → Option Thread
+last_with id threads = find (λ t. t.raw.thread_id == id) (reverse threads)
+
 -- the reads that a thread takes: one for its context, and one for its stack if that has an RVA and
 -- a size
 abbrev pub thread_reads : Thread → ℕ
@@ -104,6 +108,20 @@ IsOwnOr None otherwise found = otherwise
 abbrev pub IsStack : Thread → UnifiedRegions → Option UnifiedRegion → Type 0
 IsStack t memory found =
     IsOwnOr t.stack (IsLookedUp range_of_region (unified_regions memory) t.raw.stack.start_of_memory_range found) found
+
+-- a thread's own stack, else the region that a list of memory has for it
+abbrev pub own_or : Option (MemoryRegion MINIDUMP_MEMORY_DESCRIPTOR) → Option UnifiedRegion → Option UnifiedRegion
+own_or (Some own) otherwise = Some (of_kind Memory own)
+own_or None otherwise = otherwise
+
+-- the region in a list of memory that contains an address
+abbrev pub stack_in_list : Option UnifiedRegions → ℕ → Option UnifiedRegion
+stack_in_list memory address =
+    option_and_then (λ m. looked_up range_of_region (unified_regions m) address) memory
+
+-- the stack of a thread, as a function
+abbrev pub stack_of : Option UnifiedRegions → Thread → Option UnifiedRegion
+stack_of memory t = own_or t.stack (stack_in_list memory t.raw.stack.start_of_memory_range)
 
 -- the address of LastErrorValue in Windows' thread environment block, 13 pointers after its start,
 -- on every system: none without a width of pointers, or beyond the addresses of 64 bits
@@ -125,6 +143,12 @@ IsErrorIn names memory None found = found ≡ None
 IsErrorIn names memory (Some address) found =
     (region : Option UnifiedRegion) × IsLookedUp range_of_region (unified_regions memory) address region
     × (found ≡ error_at names address region)
+
+-- the same error, as a function
+abbrev pub error_in : Lists → UnifiedRegions → Option ℕ → Option CrashReason
+error_in names memory None = None
+error_in names memory (Some address) =
+    error_at names address (looked_up range_of_region (unified_regions memory) address)
 
 -- the stream of type ThreadListStream
 abbrev pub thread_list_stream : StreamSpec MinidumpThreadList (List Thread)

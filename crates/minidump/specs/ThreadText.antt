@@ -2,24 +2,21 @@
 use Rattle.std.specs.Prelude.{ℕ, ◌*◌, ◌/◌, Bool, List, [], ◌∷◌, ◌++◌, length, codes, Option, Some, None, if◌then◌else◌}
 use Rattle.std.specs.Fmt.{decimal}
 use Rattle.std.specs.List.{concat, flat_map, range_with_len}
-use Rattle.std.specs.Option.{option_and_then, option_map}
+use Rattle.std.specs.Option.{option_map}
 use Rattle.minidump_bytes.specs.declared.endian.Endian.{Endian}
 use Rattle.minidump_bytes.specs.Number.{number_at}
 use Rattle.minidump_bytes.specs.Piece.{hex, wide_hex}
-use Rattle.minidump_format.specs.declared.format.memory.MINIDUMP_MEMORY_DESCRIPTOR.{MINIDUMP_MEMORY_DESCRIPTOR}
 use Rattle.minidump_format.specs.declared.format.thread.MINIDUMP_THREAD.{MINIDUMP_THREAD}
 use Rattle.minidump_format.specs.Numbered.{numbered_list}
 use Rattle.minidump_format.specs.Text.{line_end}
-use Rattle.minidump_index.specs.Lookup.{looked_up}
 use Rattle.minidump_system.specs.Cpu.{width_of}
 use Rattle.minidump_system.specs.declared.cpu.PointerWidth.{PointerWidth}
 use Rattle.minidump_system.specs.declared.cpu.PointerWidth.TheVariants.{Bits32, Bits64, Unknown}
 use Rattle.minidump_system.specs.System.{System}
 use Rattle.minidump_context.specs.declared.raw_context.MinidumpRawContext.{MinidumpRawContext}
 use Rattle.minidump_context.specs.Text.{context_text}
-use Rattle.minidump_memory.specs.Memory.{MemoryRegion, range_of_region}
-use Rattle.minidump_memory.specs.Unified.{Memory, UnifiedRegion, UnifiedRegions, of_kind, unified_regions}
-use Rattle.minidump.specs.Thread.{Thread, known_context}
+use Rattle.minidump_memory.specs.Unified.{UnifiedRegion, UnifiedRegions}
+use Rattle.minidump.specs.Thread.{Thread, known_context, stack_of}
 use Rattle.minidump.specs.declared.thread.print.ThreadHead.{ThreadHead}
 use Rattle.minidump.specs.declared.thread.stack.Word.{Word}
 use Rattle.minidump.specs.declared.thread.stack.Word.TheVariants as kind
@@ -98,21 +95,6 @@ stack_text order width None = no_stack
 abbrev pub pointer_width : Option System → PointerWidth
 pointer_width (Some s) = width_of s.cpu
 pointer_width None = Unknown
-
--- a thread's own stack, else the region that a list of memory has for it
-abbrev pub own_or : Option (MemoryRegion MINIDUMP_MEMORY_DESCRIPTOR) → Option UnifiedRegion → Option UnifiedRegion
-own_or (Some own) otherwise = Some (of_kind Memory own)
-own_or None otherwise = otherwise
-
--- the region in a list of memory that contains an address
-abbrev pub stack_in_list : Option UnifiedRegions → ℕ → Option UnifiedRegion
-stack_in_list memory address =
-    option_and_then (λ m. looked_up range_of_region (unified_regions m) address) memory
-
--- the stack of a thread: its own, else the region in a list of memory that the start of its stack
--- lies in
-abbrev pub stack_of : Option UnifiedRegions → Thread → Option UnifiedRegion
-stack_of memory t = own_or t.stack (stack_in_list memory t.raw.stack.start_of_memory_range)
 
 -- what stands after the context: an empty line where the text is brief, else the stack
 abbrev pub thread_end : Bool → Endian → PointerWidth → Option UnifiedRegion → List ℕ

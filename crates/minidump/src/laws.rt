@@ -12,7 +12,6 @@ ghost use Rattle.minidump_format.specs.Header.{located};
 ghost use Rattle.minidump_format.specs.declared.format.memory.MINIDUMP_MEMORY_DESCRIPTOR.{MINIDUMP_MEMORY_DESCRIPTOR};
 ghost use Rattle.minidump_format.specs.declared.format.memory.MINIDUMP_MEMORY_DESCRIPTOR64.{MINIDUMP_MEMORY_DESCRIPTOR64};
 ghost use Rattle.minidump_format.specs.declared.format.thread.MINIDUMP_THREAD_INFO.{MINIDUMP_THREAD_INFO};
-ghost use Rattle.minidump_index.specs.Lookup.{IsLookedUp, looked_up};
 ghost use Rattle.minidump_system.specs.Cpu.{cpu_name};
 ghost use Rattle.minidump_system.specs.Os.{os_name};
 ghost use Rattle.minidump_system.specs.Reads.{and_then};
@@ -22,16 +21,14 @@ ghost use Rattle.minidump_memory.specs.declared.memory_list.MinidumpMemoryListBa
 ghost use Rattle.minidump_memory.specs.declared.memory_info.MinidumpMemoryInfoList.{MinidumpMemoryInfoList};
 ghost use Rattle.minidump_memory.specs.LinuxMaps.{map_info_of, maps_of};
 ghost use Rattle.minidump_memory.specs.MapLine.{MapRegion};
-ghost use Rattle.minidump_memory.specs.Memory.{MemoryRegion, memory_of, range_of_region};
+ghost use Rattle.minidump_memory.specs.Memory.{MemoryRegion, memory_of};
 ghost use Rattle.minidump_memory.specs.MemoryInfo.{MemoryInfo, info_of, infos_of};
 ghost use Rattle.minidump_memory.specs.MemoryList.{regions_of};
-ghost use Rattle.minidump_memory.specs.Unified.{UnifiedRegion};
-ghost use Rattle.minidump_memory.specs.UnifiedInfo.{InfoRegion, range_of_info_region};
 ghost use Rattle.minidump_modules.specs.declared.module_list.MinidumpModuleList.{MinidumpModuleList};
 ghost use Rattle.minidump_modules.specs.declared.unloaded_module.MinidumpUnloadedModule.{MinidumpUnloadedModule};
 ghost use Rattle.minidump_modules.specs.CodeId.{text_of};
 ghost use Rattle.minidump_modules.specs.DebugId.{breakpad_text, debug_id_text};
-ghost use Rattle.minidump_modules.specs.Module.{ModuleValue, module_of, range_of_module};
+ghost use Rattle.minidump_modules.specs.Module.{ModuleValue, module_of};
 ghost use Rattle.minidump_modules.specs.ModuleList.{modules_of};
 ghost use Rattle.minidump_modules.specs.UnloadedModule.{UnloadedValue, unloaded_of};
 ghost use Rattle.minidump_records.specs.declared.handles.data_stream.MinidumpHandleDataStream.{MinidumpHandleDataStream};
@@ -198,20 +195,6 @@ pub fn one_last_thread()
         → IsLastThread id threads last → IsLastThread id threads other → last ≡ other }
     ensures exists { (id : ℕ) (threads : List Thread) → (last : Option Thread)
         × IsLastThread id threads last }
-{}
-
-/// The region of memory, the module and the information that `looked_up` has of an address are the
-/// ones that a lookup returns.
-pub fn a_report_has_what_a_lookup_returns()
-    ensures regions { (regions : List UnifiedRegion) (address : ℕ) (found : Option UnifiedRegion)
-        → IsLookedUp range_of_region regions address found
-        ↔ (found ≡ looked_up range_of_region regions address) }
-    ensures modules { (modules : List ModuleValue) (address : ℕ) (found : Option ModuleValue)
-        → IsLookedUp range_of_module modules address found
-        ↔ (found ≡ looked_up range_of_module modules address) }
-    ensures infos { (infos : List InfoRegion) (address : ℕ) (found : Option InfoRegion)
-        → IsLookedUp range_of_info_region infos address found
-        ↔ (found ≡ looked_up range_of_info_region infos address) }
 {}
 
 /// The last of a dump's exceptions is its exception stream. Where it has none, that stream is

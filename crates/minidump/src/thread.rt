@@ -5,10 +5,8 @@ ghost use Rattle.minidump_bytes.specs.Steps.{after};
 ghost use Rattle.minidump_context.specs.declared.validity.MinidumpContextValidity.TheVariants.{All};
 ghost use Rattle.minidump_memory.specs.Memory.{memory_of, spans_read};
 ghost use Rattle.minidump_memory.specs.Unified.{unified_list, unified_region};
-ghost use Rattle.minidump.specs.Crash.{error_in};
-ghost use Rattle.minidump.specs.Thread.{IsErrorIn, IsStack, accepted_context, error_at, known_context};
-ghost use Rattle.minidump.specs.Thread.{last_error_address, thread_at, thread_of};
-ghost use Rattle.minidump.specs.ThreadText.{stack_of};
+ghost use Rattle.minidump.specs.Thread.{IsErrorIn, IsStack, accepted_context, error_at, error_in};
+ghost use Rattle.minidump.specs.Thread.{known_context, last_error_address, stack_of, thread_at, thread_of};
 ghost use Rattle.minidump_system.specs.SystemInfo.{system_info_of};
 
 mod print;

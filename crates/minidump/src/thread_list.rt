@@ -4,8 +4,7 @@ ghost use Rattle.std.specs.Slice.Iter.{iter_rest};
 ghost use Rattle.minidump_format.specs.Print.{Prints};
 ghost use Rattle.minidump_system.specs.SystemInfo.{system_info_of};
 ghost use Rattle.minidump_memory.specs.Unified.{unified_list};
-ghost use Rattle.minidump.specs.Crash.{last_with};
-ghost use Rattle.minidump.specs.Thread.{IsLastThread, thread_of, thread_list_of, thread_list_stream};
+ghost use Rattle.minidump.specs.Thread.{IsLastThread, last_with, thread_of, thread_list_of, thread_list_stream};
 ghost use Rattle.minidump.specs.ThreadText.{thread_list_text};
 
 use crate::MinidumpThread;

@@ -101,13 +101,13 @@ mac_crash_info_in order file bytes =
       unreadable = count_by (states_version_0 order file) locations + (info.record_count - 20);
     })))
 
--- how many records are read
+-- how many locations are read
 abbrev pub count_of_records : Endian → List ℕ → ℕ
 count_of_records order bytes = min (number_at order 4 4 (slice_range bytes 0 172)) 20
 
 -- the stream of type MozMacosCrashInfoStream. Its reads are the record of the stream, the bytes and
--- the head of each record that it counts, and those by the records' versions. It takes memory where
--- it counts a record
+-- the head of the record at each of these locations, and those by the records' versions. It takes
+-- memory where it counts a record
 abbrev pub mac_crash_info_stream : StreamSpec MinidumpMacCrashInfo MacRecords
 mac_crash_info_stream = record {
   stream_type = number_of MozMacosCrashInfoStream;

@@ -3,8 +3,8 @@ use Rattle.std.specs.Prelude.{◌≡◌, ℕ, List, [], ◌∷◌, Option, Some,
 use Rattle.std.specs.Option.{option_map_or}
 
 module _ {F : Type 0} (caller_of : F → Option F) where
-  -- the callers of a frame, the innermost first: each is the caller of the one before it, and the
-  -- last frame has none
+  -- these are the callers of a frame, the innermost first: each is the caller of the one before it.
+  -- The last of the frame and these is `last`, which has no caller
   abbrev pub AreCallers : F → List F → F → Type 0
   AreCallers f [] last = (caller_of f ≡ None) × (last ≡ f)
   AreCallers f (g ∷ gs) last = (caller_of f ≡ Some g) × AreCallers g gs last

@@ -15,8 +15,7 @@ use Rattle.minidump.specs.Below.System.Cpu.{width_of}
 use Rattle.minidump.specs.Below.System.System.{System}
 use Rattle.minidump.specs.Exception.{Exception}
 use Rattle.minidump.specs.Promise.{exception_stream, system_info_stream}
-use Rattle.minidump.specs.Thread.{Thread, accepted_context}
-use Rattle.minidump.specs.ThreadText.{stack_of}
+use Rattle.minidump.specs.Thread.{Thread, accepted_context, stack_of}
 use Rattle.stack_walk.specs.declared.frame.StackFrame.{StackFrame}
 use Rattle.stack_walk.specs.declared.thread.Process.{Process}
 use Rattle.stack_walk.specs.Frames.{StackValue, stack_pointer_in}

@@ -5,9 +5,9 @@ ghost use Rattle.minidump_format.specs.Print.{Prints};
 ghost use Rattle.minidump_format.specs.Text.{line_end};
 ghost use Rattle.minidump_system.specs.SystemInfo.{system_info_of};
 ghost use Rattle.minidump_memory.specs.Unified.{unified_list, unified_region};
-ghost use Rattle.minidump.specs.Thread.{known_context, thread_of};
-ghost use Rattle.minidump.specs.ThreadText.{stack_in_list, no_stack, no_thread_context, pointer_width, stack_heading};
-ghost use Rattle.minidump.specs.ThreadText.{stack_of, stack_text, thread_context_text, thread_end, thread_head};
+ghost use Rattle.minidump.specs.Thread.{known_context, stack_in_list, stack_of, thread_of};
+ghost use Rattle.minidump.specs.ThreadText.{no_stack, no_thread_context, pointer_width, stack_heading};
+ghost use Rattle.minidump.specs.ThreadText.{stack_text, thread_context_text, thread_end, thread_head};
 ghost use Rattle.minidump.specs.ThreadText.{thread_head_of, thread_text, stack_words_text};
 
 use super::stack::print_words;

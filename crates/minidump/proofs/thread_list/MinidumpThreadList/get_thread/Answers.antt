@@ -2,10 +2,8 @@
 use Rattle.std.proofs.Common.{ap, map, subst, sym, ◌≡◌, ◌∙◌}
 use Rattle.std.specs.Prelude.{◌==◌}
 use Rattle.std.specs.Option.{option_copied, option_map}
-use Rattle.minidump.specs.Crash.{last_with}
-use Rattle.minidump.specs.Thread.{IsLastThread, thread_of}
-use Rattle.minidump.proofs.CrashLemmas.{last_seen}
-use Rattle.minidump.proofs.ThreadLemmas.{found_is_last}
+use Rattle.minidump.specs.Thread.{IsLastThread, last_with, thread_of}
+use Rattle.minidump.proofs.ThreadLemmas.{found_is_last, last_seen}
 use Rattle.minidump.proofs.thread_list.MinidumpThreadList.get_thread.Goals as goal
 
 pub returns-clause-answer : goal.returns-clause-answer
