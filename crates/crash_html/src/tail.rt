@@ -378,6 +378,8 @@ function systemFacts() {
     ["Processors", part(system, "cpu_count")],
     ["Release", membersOf(part(crash, "lsb_release"), ["id", "release", "codename", "description"])],
     ["Dumped", timeWords(part(minidump, "written"))],
+    ["Dump requested by thread", part(minidump, "requesting_thread_id")],
+    ["Dump written by thread", part(minidump, "dump_thread_id")],
     ["Process", part(crash, "pid")],
     ["Parent process", part(minidump, "parent_process_id")],
     ["Resident memory", resident === null ? null : counted(resident) + " bytes"],
@@ -600,7 +602,8 @@ const KNOWN = {
   system_info: "os os_ver cpu_arch cpu_info cpu_count cpu_microcode_version",
   crash_info: "type address crashing_thread assertion",
   minidump: "written uptime status streams memory damage address exceptions exception registers_of assertion crashpad signature "
-    + "command_line comment wide_comment point environment parent_process_id resident_size handle_kinds unreadable_modules",
+    + "command_line comment wide_comment point environment parent_process_id resident_size requesting_thread_id "
+    + "dump_thread_id handle_kinds unreadable_modules",
   "minidump.point": "instruction registers code words flags set_flags",
   "minidump.address": "address module module_offset null_offset is_canonical unloaded_module stack_of below_stack memory",
   crashing_thread: "threads_index thread_id thread_name is_listed last_error_value stack stack_memory context_problem short_context frame_count "

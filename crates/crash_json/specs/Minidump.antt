@@ -1,9 +1,11 @@
 -- What a minidump says that the schema has no member for, as JSON.
-use Rattle.std.specs.Prelude.{ℕ, ◌==◌, ◌++◌, Bool, List, [], ◌∷◌, codes, Option, Some, None, Ok}
+use Rattle.std.specs.Prelude.{ℕ, ◌==◌, ◌++◌, Bool, List, [], ◌∷◌, codes, Option, Some, None, Result, Ok}
 use Rattle.std.specs.Prelude.{if◌then◌else◌}
-use Rattle.std.specs.Option.{option_map}
+use Rattle.std.specs.Option.{option_and_then, option_map}
 use Rattle.std.specs.Result.{result_ok}
 use Rattle.json.specs.Json.{Json, string}
+use Rattle.minidump.specs.declared.Error.{Error}
+use Rattle.minidump.specs.declared.MinidumpBreakpadInfo.{MinidumpBreakpadInfo}
 use Rattle.minidump.specs.Below.Format.Error.{name_of_error}
 use Rattle.minidump.specs.Below.Format.StreamType.{stream_type_of, type_name}
 use Rattle.minidump.specs.Below.MemoryLists.Unified.{UnifiedRegion, unified_regions}
@@ -79,13 +81,22 @@ damage_json (Stack id) = damage_object (codes "stack") None None (Some id) None
 abbrev pub unless_zero : ℕ → Option ℕ
 unless_zero n = if n == 0 then None else Some n
 
--- the process, with its environment where that is asked for
+-- the threads that requested and wrote the dump, by Breakpad's information
+abbrev pub requesting_thread : Result MinidumpBreakpadInfo Error → Option ℕ
+requesting_thread info = option_and_then (λ b. b.requesting_thread_id) (result_ok info)
+
+abbrev pub dump_thread : Result MinidumpBreakpadInfo Error → Option ℕ
+dump_thread info = option_and_then (λ b. b.dump_thread_id) (result_ok info)
+
+-- the process, with its environment where that is asked for, and who wrote the dump
 unfoldable pub process_members : Bool → CrashValue → List (List ℕ × Json)
 process_members environment c =
     (codes "written", or_null count (unless_zero c.directory.written))
     ∷ (codes "uptime", or_null count c.process.uptime)
     ∷ (codes "parent_process_id", or_null count c.process.parent)
     ∷ (codes "resident_size", or_null count c.process.resident)
+    ∷ (codes "requesting_thread_id", or_null count (requesting_thread c.contents.system.breakpad))
+    ∷ (codes "dump_thread_id", or_null count (dump_thread c.contents.system.breakpad))
     ∷ (codes "command_line", or_null string c.process.command_line)
     ∷ (codes "environment", environment_json environment c.contents.process.environ)
     ∷ (codes "comment", or_null string c.process.comments.narrow)

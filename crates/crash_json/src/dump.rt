@@ -1,16 +1,18 @@
 //! What a minidump says that the schema has no member for.
 ghost use Rattle.std.specs.Prelude.{◌≡◌, Ok};
 ghost use Rattle.std.specs.Option.{option_copied, option_map};
+ghost use Rattle.minidump.specs.Below.Contexts.Context.{map_ok};
 ghost use Rattle.minidump.specs.Below.Format.Error.{name_of_error};
 ghost use Rattle.minidump.specs.Below.Format.StreamType.{stream_type_of, type_name};
 ghost use Rattle.minidump.specs.Below.MemoryLists.Unified.{unified_list, unified_region};
 ghost use Rattle.minidump.specs.Below.MemoryLists.Unified.{unified_regions};
+ghost use Rattle.minidump.specs.Promise.{breakpad_info_stream};
 ghost use Rattle.crash.specs.Crash.{crash_of, status_of};
 ghost use Rattle.crash_json.specs.Tree.{Adds, Puts, array_of};
 ghost use Rattle.crash_json.specs.Members.{report_of};
 ghost use Rattle.crash_json.specs.Minidump.{damage_json, damage_object, file_members};
-ghost use Rattle.crash_json.specs.Minidump.{minidump_json, process_members, region_json};
-ghost use Rattle.crash_json.specs.Minidump.{signature_members, signed_members, stream_json};
+ghost use Rattle.crash_json.specs.Minidump.{dump_thread, minidump_json, process_members, region_json};
+ghost use Rattle.crash_json.specs.Minidump.{requesting_thread, signature_members, signed_members, stream_json};
 ghost use Rattle.crash_json.specs.Minidump.{unless_zero};
 
 use crate::cause::widened;
@@ -22,7 +24,7 @@ use crate::tree::{Members, Put, Scalar, ToJson, put_array, put_found, put_or_nul
 use crash::{Crash, Damage, StreamEntry, regions_of};
 use json::Writer;
 use minidump::format::MINIDUMP_STREAM_TYPE;
-use minidump::{Error, UnifiedMemory, UnifiedMemoryList};
+use minidump::{Error, MinidumpBreakpadInfo, UnifiedMemory, UnifiedMemoryList};
 use minidump_bytes::as_text;
 use std::alloc::Global;
 
@@ -52,7 +54,27 @@ fn status_of(crash: &Crash<'_>) -> u64
     if crash.damage.is_empty() { 0 } else { 1 }
 }
 
-// Adds the process, with its environment if it is asked for.
+// Returns the id of the thread that requested the dump, if Breakpad's information has it.
+fn requesting_thread(info: &Result<MinidumpBreakpadInfo, Error>) -> Option<u64>
+    ensures { result ≡ requesting_thread (map_ok breakpad_info_stream.value info.now) }
+{
+    match info {
+        Ok(info) => widened(info.requesting_thread_id),
+        Err(_) => None,
+    }
+}
+
+// Returns the id of the thread that wrote the dump, if Breakpad's information has it.
+fn dump_thread(info: &Result<MinidumpBreakpadInfo, Error>) -> Option<u64>
+    ensures { result ≡ dump_thread (map_ok breakpad_info_stream.value info.now) }
+{
+    match info {
+        Ok(info) => widened(info.dump_thread_id),
+        Err(_) => None,
+    }
+}
+
+// Adds the process, with its environment if it is asked for, and who wrote the dump.
 #[rattlefmt::skip]
 #[tactic(auto, unfolding(crate::specs::Minidump::process_members))]
 fn put_process(out: &mut Writer, alloc: Global, environment: bool, crash: &Crash<'_>) -> Put
@@ -60,11 +82,15 @@ fn put_process(out: &mut Writer, alloc: Global, environment: bool, crash: &Crash
 {
     let written = unless_zero(crash.directory.written);
     let parent = widened(crash.process.parent);
+    let requesting = requesting_thread(&crash.contents.system.breakpad);
+    let writing = dump_thread(&crash.contents.system.breakpad);
     Members(&[
         ("written", Member::Scalar(Scalar::Number(written))),
         ("uptime", Member::Scalar(Scalar::Number(crash.process.uptime))),
         ("parent_process_id", Member::Scalar(Scalar::Number(parent))),
         ("resident_size", Member::Scalar(Scalar::Number(crash.process.resident))),
+        ("requesting_thread_id", Member::Scalar(Scalar::Number(requesting))),
+        ("dump_thread_id", Member::Scalar(Scalar::Number(writing))),
         ("command_line", Member::Scalar(Scalar::Optional(&crash.process.command_line))),
         ("environment", Member::Environment(environment, crash)),
         ("comment", Member::Scalar(Scalar::Optional(&crash.process.comments.narrow))),

@@ -3,6 +3,7 @@ use Rattle.std.specs.Prelude.{ℕ, ◌==◌, ◌++◌, List, [], ◌∷◌, code
 use Rattle.std.specs.Fmt.{decimal}
 use Rattle.std.specs.List.{concat}
 use Rattle.minidump.specs.Below.Records.BootArgs.{BootArgs}
+use Rattle.minidump.specs.declared.MinidumpBreakpadInfo.{MinidumpBreakpadInfo}
 use Rattle.minidump.specs.Below.System.Cpu.{cpu_name}
 use Rattle.minidump.specs.Below.System.Dates.{date_text_of}
 use Rattle.minidump.specs.Below.System.Os.{os_name}
@@ -69,8 +70,15 @@ number_lines p = if_some (λ id. id_text (codes "process ") id ∷ []) p.id
     ++ (if_some (λ n. amount_row (codes "uptime  ") n (codes " s") ∷ []) p.uptime
     ++ if_some (λ n. amount_row (codes "resident ") n (codes " bytes") ∷ []) p.resident))
 
+-- the threads that requested and wrote the dump, by Breakpad's information
+abbrev pub breakpad_lines : MinidumpBreakpadInfo → List (List ℕ)
+breakpad_lines b =
+    if_some (λ id. id_text (codes "dump requested by thread ") id ∷ []) b.requesting_thread_id
+    ++ if_some (λ id. id_text (codes "dump written by thread ") id ∷ []) b.dump_thread_id
+
 -- all of them
 abbrev pub head_lines : CrashValue → List (List ℕ)
 head_lines c = system_lines c ++ (if_some (λ r. release_line r ∷ []) c.process.release
     ++ (if_ok boot_lines c.contents.messages.mac_boot_args ++ (date_lines c.directory.written
-    ++ (number_lines c.process ++ said_lines c.process))))
+    ++ (if_ok breakpad_lines c.contents.system.breakpad
+    ++ (number_lines c.process ++ said_lines c.process)))))

@@ -1,12 +1,12 @@
 ghost use Rattle.std.specs.Prelude.{[], ◌∷◌, codes};
 ghost use Rattle.std.specs.Option.{option_map};
 ghost use Rattle.minidump.specs.Below.Contexts.Context.{map_ok};
-ghost use Rattle.minidump.specs.Promise.{mac_bootargs_stream, system_info_stream};
+ghost use Rattle.minidump.specs.Promise.{breakpad_info_stream, mac_bootargs_stream, system_info_stream};
 ghost use Rattle.crash.specs.Crash.{crash_of};
 ghost use Rattle.crash.specs.Process.{process_of, system_of};
 ghost use Rattle.crash.specs.Release.{release_of};
 ghost use Rattle.crash_text.specs.Lines.{Adds, if_ok, if_some};
-ghost use Rattle.crash_text.specs.System.{amount_row, boot_lines, date_lines, head_lines};
+ghost use Rattle.crash_text.specs.System.{amount_row, boot_lines, breakpad_lines, date_lines, head_lines};
 ghost use Rattle.crash_text.specs.System.{known_system_lines, number_lines, release_line};
 ghost use Rattle.crash_text.specs.System.{said_lines, system_line, system_lines, system_row};
 ghost use Rattle.crash_text.specs.Words.{id_text, missing_lines};
@@ -15,7 +15,7 @@ use crate::lines::{Added, push_line};
 use crate::words::{or_empty, push_id, push_if_missing, push_text, push_text_row, unless_empty};
 use crash::{Crash, CrashProcess, CrashSystem, LsbRelease};
 use minidump::text::Piece::{Decimal, Words};
-use minidump::{Error, MinidumpMacBootargs, MinidumpSystemInfo, date_text};
+use minidump::{Error, MinidumpBreakpadInfo, MinidumpMacBootargs, MinidumpSystemInfo, date_text};
 use std::alloc::AllocError;
 
 // Appends the lines of the system, of the date of the dump, and of the process.
@@ -26,6 +26,7 @@ pub(crate) fn push_head(out: &mut String, crash: &Crash<'_>) -> Added
     push_release(out, &crash.process.release)?;
     push_boot(out, &crash.contents.messages.mac_boot_args)?;
     push_date(out, crash.directory.written)?;
+    push_breakpad(out, &crash.contents.system.breakpad)?;
     push_numbers(out, &crash.process)?;
     push_said(out, &crash.process)
 }
@@ -133,6 +134,20 @@ fn push_date(out: &mut String, stamp: u32) -> Added
     }
 }
 
+// Appends the threads that requested and wrote the dump, if Breakpad's information has them.
+fn push_breakpad(out: &mut String, info: &Result<MinidumpBreakpadInfo, Error>) -> Added
+    ensures { Adds out.old out.new
+        (if_ok breakpad_lines (map_ok breakpad_info_stream.value info.now)) result }
+{
+    match info {
+        Ok(info) => {
+            push_known_id(out, "dump requested by thread ", info.requesting_thread_id)?;
+            push_known_id(out, "dump written by thread ", info.dump_thread_id)
+        }
+        Err(_) => Ok(()),
+    }
+}
+
 // Appends the lines of the numbers of the process.
 fn push_numbers(out: &mut String, process: &CrashProcess) -> Added
     ensures { Adds out.old out.new (number_lines (process_of process.now)) result }
@@ -152,7 +167,7 @@ fn push_said(out: &mut String, process: &CrashProcess) -> Added
     push_text(out, "comment ", &process.comments.wide)
 }
 
-// Appends the line of the id of a process after its words, if it is known.
+// Appends the line of the id of a process or a thread after its words, if it is known.
 fn push_known_id(out: &mut String, what: &str, id: Option<u32>) -> Added
     ensures { Adds out.old out.new (if_some (λ id. id_text what.now id ∷ []) id) result }
 {
