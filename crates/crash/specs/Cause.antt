@@ -87,24 +87,20 @@ is_instruction s e address = option_map_or (λ f. instruction_pointer_in f.raw =
 
 -- an address says only where the thread stood: it is the instruction pointer of an exception's own context, and
 -- code may be there. Where none can be, as at 0, the thread jumped to it, and that was the access
-abbrev pub is_where_it_stood : ContentsValue → System → Exception → ℕ → Bool
+abbrev is_where_it_stood : ContentsValue → System → Exception → ℕ → Bool
 is_where_it_stood c s e address = is_instruction s e address && has_code c address
 
 -- the record of an exception on a system has no address of a crash: none at all, or one that says only that
-abbrev pub has_no_address : ContentsValue → System → Exception → Bool
+abbrev has_no_address : ContentsValue → System → Exception → Bool
 has_no_address c s e = lacks_address s.os s.cpu e.raw.exception_record
     || (may_be_instruction s.os e.raw.exception_record
     && is_where_it_stood c s e (crash_address s.os s.cpu e.raw.exception_record))
 
--- the address of a crash on a system, unless the record has none
-abbrev pub address_on : ContentsValue → System → Exception → Option ℕ
-address_on c s e = if has_no_address c s e then None
-    else Some (crash_address s.os s.cpu e.raw.exception_record)
-
--- the address of a crash, where the system is known. A signal that a process sent has none
+-- the address of a crash where the system is known, unless a process sent the signal, or the record has none
 abbrev pub address_unless : ContentsValue → Option Sender → Option System → Exception → Option ℕ
-address_unless c (Some _) system e = None
-address_unless c None system e = option_and_then (λ s. address_on c s e) system
+address_unless c None (Some s) e = if has_no_address c s e then None
+    else Some (crash_address s.os s.cpu e.raw.exception_record)
+address_unless c _ _ e = None
 
 -- the same by who sent the signal
 abbrev pub address_in : ContentsValue → Option System → Exception → Option ℕ

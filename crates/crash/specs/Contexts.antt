@@ -51,23 +51,20 @@ system_of c = result_ok c.system.system
 
 -- ---- contexts that are whole
 
--- a whole context
-abbrev pub whole_context : Option MinidumpRawContext → Option FoundContext
-whole_context raw = option_map (λ raw. record { raw = raw; short = None }) raw
-
--- ---- contexts in another layout
-
 -- the context at the start of the bytes in Breakpad's first layout of ARM64: its flags have the
--- number of that layout, and those of the integer and the floating-point registers
-abbrev pub old_arm64 : Endian → List ℕ → Option MinidumpRawContext
-old_arm64 order bytes = option_and_then (λ c.
+-- number of that layout, and those of the integer and the floating-point registers. On a processor
+-- of the layout that came after it LLDB writes the first one, too
+abbrev pub old_on : Cpu → Endian → List ℕ → Option MinidumpRawContext
+old_on cpu.Arm64 order bytes = option_and_then (λ c.
     if has_flag c.context_flags 0x8000_0006 then Some (OldArm64 c) else None)
     (record_at context_arm64_old order 0 bytes)
-
--- the same on a processor of the layout that came after it, where LLDB writes the first one, too
-abbrev pub old_on : Cpu → Endian → List ℕ → Option MinidumpRawContext
-old_on cpu.Arm64 order bytes = old_arm64 order bytes
 old_on other order bytes = None
+
+-- the context that bytes hold whole: in the layout of the processor, or in another one
+abbrev whole_in : System → Endian → List ℕ → Option MinidumpRawContext
+whole_in s order bytes =
+    option_or (accepted_context s.raw.processor_architecture order (Some bytes))
+    (old_on s.cpu order bytes)
 
 -- ---- contexts that are cut after the general registers
 
@@ -90,12 +87,12 @@ abbrev pub padded : List ℕ → ℕ → List ℕ
 padded bytes whole = bytes ++ replicate (whole - length bytes) 0
 
 -- a context of which there are so many bytes, if these have all general registers
-abbrev pub short_of : ℕ → ℕ → MinidumpRawContext → Option FoundContext
+abbrev short_of : ℕ → ℕ → MinidumpRawContext → Option FoundContext
 short_of size whole raw = if has_general raw
     then Some (record { raw = raw; short = Some (record { size = size; whole = whole }) }) else None
 
 -- the context of which bytes are the front, by how many of these there are at least and at most
-abbrev pub short_by : System → Endian → List ℕ → ℕ × ℕ → Option FoundContext
+abbrev short_by : System → Endian → List ℕ → ℕ × ℕ → Option FoundContext
 short_by s order bytes l = if nat_le l.0 (length bytes) && nat_lt (length bytes) l.1
     then option_and_then (short_of (length bytes) l.1)
     (accepted_context s.raw.processor_architecture order (Some (padded bytes l.1))) else None
@@ -106,16 +103,10 @@ short_context s order bytes = option_and_then (short_by s order bytes) (lengths 
 
 -- ---- the context of a thread
 
--- the context that bytes hold whole: in the layout of the processor, or in another one
-abbrev pub whole_in : System → Endian → List ℕ → Option MinidumpRawContext
-whole_in s order bytes =
-    option_or (accepted_context s.raw.processor_architecture order (Some bytes))
-    (old_on s.cpu order bytes)
-
 -- the context that bytes hold: whole, or cut after its general registers
 abbrev pub context_on : System → Endian → List ℕ → Option FoundContext
-context_on s order bytes =
-    option_or (whole_context (whole_in s order bytes)) (short_context s order bytes)
+context_on s order bytes = option_or (option_map (λ raw. record { raw = raw; short = None })
+    (whole_in s order bytes)) (short_context s order bytes)
 
 -- the same, where the system is known and the bytes are in the file
 abbrev pub any_context : Option System → Endian → Option (List ℕ) → Option FoundContext
@@ -127,12 +118,12 @@ abbrev pub context_at : ContentsValue → Exception → Option FoundContext
 context_at c e = any_context (system_of c) e.order e.context
 
 -- the same, where the exception happened on the thread with an id
-abbrev pub on_thread : ContentsValue → Option Exception → ℕ → Option FoundContext
+abbrev on_thread : ContentsValue → Option Exception → ℕ → Option FoundContext
 on_thread c e id =
     option_and_then (λ e. if e.thread_id == id then context_at c e else None) e
 
 -- a context, if it is whole
-abbrev pub whole_only : Option FoundContext → Option FoundContext
+abbrev whole_only : Option FoundContext → Option FoundContext
 whole_only (Some f) = if is_none f.short then Some f else None
 whole_only None = None
 
@@ -141,12 +132,12 @@ abbrev pub of_origin : ContextOrigin → Option FoundContext → Option (Context
 of_origin origin context = option_map (λ f. (origin, f)) context
 
 -- the first of the context of an exception on a thread and of the thread's own
-abbrev pub first_of : Option FoundContext → Option FoundContext
+abbrev first_of : Option FoundContext → Option FoundContext
     → Option (ContextOrigin × FoundContext)
 first_of exception own = option_or (of_origin OfException exception) (of_origin OfThread own)
 
 -- the first of them that is whole, else the first
-abbrev pub first_found : Option FoundContext → Option FoundContext
+abbrev first_found : Option FoundContext → Option FoundContext
     → Option (ContextOrigin × FoundContext)
 first_found exception own = option_or (first_of (whole_only exception) (whole_only own))
     (first_of exception own)
@@ -162,18 +153,14 @@ found_in c e t = first_found (on_thread c e t.raw.thread_id)
 abbrev pub register_values : MinidumpRawContext → List (List ℕ × ℕ)
 register_values raw = valid_registers_from All (registers_of raw) 0
 
--- the registers of a context, with whose it is and how much of it there is, where it is cut
-abbrev pub registers_in : ContextOrigin → Option ShortContext → MinidumpRawContext → ContextValue
-registers_in origin short raw = record {
-  registers = register_values raw;
-  size = (registers_of raw).size;
-  origin = origin;
-  short = short;
-}
-
--- the same of a context that is found
+-- the registers of a context that is found, with whose it is and how much of it there is, where it is cut
 abbrev pub context_by : ContextOrigin × FoundContext → ContextValue
-context_by f = registers_in f.0 f.1.short f.1.raw
+context_by f = record {
+  registers = register_values f.1.raw;
+  size = (registers_of f.1.raw).size;
+  origin = f.0;
+  short = f.1.short;
+}
 
 -- the registers of a thread of the list
 abbrev pub context_in : ContentsValue → Option Exception → Thread → Option ContextValue
@@ -185,14 +172,10 @@ context_in c e t = option_map context_by (found_in c e t)
 abbrev pub named_bytes : MINIDUMP_LOCATION_DESCRIPTOR → Option (List ℕ) → Option (List ℕ)
 named_bytes location bytes = if location.data_size == 0 then Some [] else bytes
 
--- why the bytes of a context give no registers, by whether the system is known and whether it
--- accepts them
-abbrev pub problem_by : Bool → Bool → Option (List ℕ) → Option ContextProblem
-problem_by is_known is_accepted None = Some Outside
-problem_by is_known is_accepted (Some bytes) = if is_accepted then None
-    else (if is_known then Some (NotAccepted (length bytes)) else Some NoSystem)
-
--- the same by the system
+-- why the bytes of a context give no registers: they aren't in the file, the system is unknown, or it
+-- doesn't accept them
 abbrev pub problem_in : Option System → Endian → Option (List ℕ) → Option ContextProblem
-problem_in system order bytes =
-    problem_by (is_some system) (is_some (any_context system order bytes)) bytes
+problem_in system order None = Some Outside
+problem_in None order (Some bytes) = Some NoSystem
+problem_in (Some s) order (Some bytes) =
+    if is_some (context_on s order bytes) then None else Some (NotAccepted (length bytes))

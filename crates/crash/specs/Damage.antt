@@ -36,10 +36,6 @@ if_any count d = if count == 0 then None else Some d
 abbrev pub texts_damage : ℕ → ℕ → Option Damage
 texts_damage number count = if_any count (damage.Texts number count)
 
--- the records of a stream that can't be read, by its type, where there are any
-abbrev pub records_damage : ℕ → ℕ → Option Damage
-records_damage number count = if_any count (damage.Records number count)
-
 -- how many records of macOS's crash information can't be read
 abbrev pub records_lacking : Result MacRecords Error → ℕ
 records_lacking found = option_map_or (λ all. all.unreadable) (result_ok found) 0
@@ -56,7 +52,8 @@ counted_damage c directory comments =
     ∷ texts_damage handle_data_stream.stream_type (handles_lacking c.process.handles)
     ∷ texts_damage thread_names_stream.stream_type (threads_lacking c.threads.names)
     ∷ texts_damage assertion_stream.stream_type (assertion_lacking c.messages.assertion)
-    ∷ records_damage mac_crash_info_stream.stream_type (records_lacking c.messages.mac_crash_info)
+    ∷ if_any (records_lacking c.messages.mac_crash_info)
+    (damage.Records mac_crash_info_stream.stream_type (records_lacking c.messages.mac_crash_info))
     ∷ texts_damage mac_bootargs_stream.stream_type (boot_args_lacking c.messages.mac_boot_args)
     ∷ []
 

@@ -4,7 +4,7 @@
 use Rattle.std.specs.Prelude.{◌≡◌, ◌==◌, ◌&&◌, ℕ, Bool, List, count_by, is_none, map, not, Option}
 use Rattle.std.specs.Prelude.{Some, None, Result, Err}
 use Rattle.std.specs.List.{last_or}
-use Rattle.std.specs.Option.{option_and_then}
+use Rattle.std.specs.Option.{option_and_then, option_map_or}
 use Rattle.std.specs.Result.{result_err}
 use Rattle.minidump.specs.declared.Error.{Error}
 use Rattle.minidump.specs.declared.Error.TheVariants.{StreamNotFound}
@@ -80,14 +80,9 @@ error_of_type d c n stream.LinuxEnviron = result_err c.process.environ
 error_of_type d c n stream.MozLinuxLimits = result_err c.process.limits
 error_of_type d c n _ = raw_error d n
 
--- the same by the number of a type and, if it has a name, the named type
-abbrev pub error_by : Dump → ContentsValue → ℕ → Option MINIDUMP_STREAM_TYPE → Option Error
-error_by d c n (Some known_type) = error_of_type d c n known_type
-error_by d c n None = raw_error d n
-
--- the same by the number of a type
+-- the same by the number of a type: one that has no name is never read
 abbrev pub error_of_number : Dump → ContentsValue → ℕ → Option Error
-error_of_number d c number = error_by d c number (stream_type_of number)
+error_of_number d c n = option_map_or (error_of_type d c n) (stream_type_of n) (raw_error d n)
 
 -- the stream of an entry that decides
 abbrev pub entry_in : Dump → ContentsValue → MINIDUMP_DIRECTORY → StreamEntry

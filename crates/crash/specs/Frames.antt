@@ -9,7 +9,6 @@ use Rattle.minidump.specs.Below.Index.Lookup.{looked_up}
 use Rattle.minidump.specs.Below.MemoryLists.Memory.{range_of_region}
 use Rattle.minidump.specs.Below.MemoryLists.Unified.{UnifiedRegion, UnifiedRegions, unified_regions}
 use Rattle.minidump.specs.Below.MemoryLists.UnifiedInfo.{info_regions}
-use Rattle.minidump.specs.Below.Modules.Module.{ModuleValue}
 use Rattle.minidump.specs.Exception.{Exception}
 use Rattle.minidump.specs.Thread.{Thread}
 use Rattle.stack_walk.specs.declared.end.WalkEnd.{WalkEnd}
@@ -42,11 +41,8 @@ crash_walk_of w = record {
 
 -- ---- frames
 
--- the index of the kept module that contains an address, where there is one, and the offset in that
-abbrev pub place_of : List ModuleValue → Option ℕ → Option (ℕ × ℕ)
-place_of modules address = option_and_then (module_place modules) address
-
--- a frame of a stack with its module
+-- a frame of a stack with its module: the index of the kept one that contains its address, and the offset
+-- in that
 abbrev pub frame_in : StackValue → StackFrame → CrashFrame
 frame_in s f = record {
   address = lookup_address s.cpu f;
@@ -54,7 +50,7 @@ frame_in s f = record {
   stack_pointer = f.stack_pointer;
   frame_pointer = f.frame_pointer;
   trust = f.trust;
-  «module» = place_of s.modules (lookup_address s.cpu f);
+  «module» = option_and_then (module_place s.modules) (lookup_address s.cpu f);
 }
 
 -- a walk with the module of each frame

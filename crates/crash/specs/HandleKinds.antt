@@ -42,11 +42,7 @@ type_names handles = filter_map (λ h. h.type_name) handles
 abbrev pub kind_by : List ℕ × ℕ → KindValue
 kind_by p = record { type_name = p.0; count = p.1 }
 
--- the kinds of handles
-abbrev pub kinds_by : List Handle → List KindValue
-kinds_by handles = map kind_by (tally (type_names handles))
-
--- the same of the stream: none where it can't be read
+-- the kinds of handles: none where their stream can't be read
 abbrev pub kinds_in : Result (List Handle) Error → List KindValue
-kinds_in (Ok handles) = kinds_by handles
+kinds_in (Ok handles) = map kind_by (tally (type_names handles))
 kinds_in (Err e) = []

@@ -8,8 +8,7 @@ use Rattle.std.specs.Option.{option_and_then, option_map, option_map_or}
 use Rattle.minidump.specs.declared.MinidumpContext.{MinidumpContext}
 use Rattle.minidump.specs.declared.MinidumpRawContext.{MinidumpRawContext}
 use Rattle.minidump.specs.declared.MinidumpRawContext.TheVariants.{Amd64, Arm, Arm64, OldArm64, X86}
-use Rattle.minidump.specs.Below.MemoryLists.Unified.{UnifiedRegion, UnifiedRegions}
-use Rattle.minidump.specs.Below.Modules.Module.{ModuleValue}
+use Rattle.minidump.specs.Below.MemoryLists.Unified.{UnifiedRegions}
 use Rattle.minidump.specs.Below.System.Cpu.{pointer_bytes}
 use Rattle.stack_walk.specs.Addresses.{is_address}
 use Rattle.stack_walk.specs.Frames.{StackValue, instruction_pointer_in, pointer_at, stack_pointer_in}
@@ -52,40 +51,30 @@ point_of p = record {
 abbrev pub holds_address : List ℕ → Bool
 holds_address name = not (bytes_eq name (codes "eflags"))
 
--- what is known of the value of each register that may hold an address, as an address
-abbrev pub facts_of_each : ContentsValue → List (List ℕ × ℕ) → List (List ℕ × AddressFacts)
-facts_of_each c registers =
-    map (λ r. (r.0, facts_of c r.1)) (filter (λ r. holds_address r.0) registers)
-
--- the same of the registers of a context, in the order of the processor
+-- what is known of the value of each register of a context that may hold an address, as an address, in
+-- the order of the processor
 abbrev pub register_facts : ContentsValue → MinidumpRawContext → List (List ℕ × AddressFacts)
-register_facts c raw = facts_of_each c (register_values raw)
+register_facts c raw =
+    map (λ r. (r.0, facts_of c r.1)) (filter (λ r. holds_address r.0) (register_values raw))
 
 -- ---- the code
 
--- the bytes of a region from an address on, at most 16
-abbrev pub code_of : Option UnifiedRegion → ℕ → List ℕ
-code_of region address =
-    option_map_or (λ r. take 16 (drop (address - r.base_address) r.bytes)) region []
-
--- the same of the kept region that contains the address
+-- the bytes from an address on, at most 16, of the kept region that contains the address
 abbrev pub code_at : UnifiedRegions → ℕ → List ℕ
-code_at memory address = code_of (memory_at memory address) address
+code_at memory address = option_map_or (λ r. take 16 (drop (address - r.base_address) r.bytes))
+    (memory_at memory address) []
 
 -- ---- the words
 
--- a word with the module that contains it, as an address
-abbrev pub word_by : List ModuleValue → ℕ → ℕ → StackWord
-word_by modules address value = record {
-  address = address;
-  value = value;
-  «module» = module_place modules value;
-}
-
--- the word that a stack holds at an address
+-- the word that a stack holds at an address, with the module that contains it, as an address
 abbrev pub word_in : StackValue → ℕ → Option StackWord
 word_in s address = if is_address s.width address
-    then option_map (word_by s.modules address) (pointer_at s address) else None
+    then option_map (λ value. record {
+      address = address;
+      value = value;
+      «module» = module_place s.modules value;
+    }) (pointer_at s address)
+    else None
 
 -- the word of a number from an address up
 unfoldable pub word_at : StackValue → ℕ → ℕ → Option StackWord

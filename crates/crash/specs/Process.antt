@@ -97,23 +97,17 @@ system_by cpu s = record {
 abbrev pub system_in : Result System Error → Result (List ℕ) Error → Option SystemValue
 system_in system cpu = option_map (system_by cpu) (result_ok system)
 
--- the id of the process by the misc information
-abbrev pub misc_id : Result RawMiscInfo Error → Option ℕ
-misc_id misc = option_and_then process_id (result_ok misc)
-
--- the same, else that of Linux's status
+-- the id of the process by the misc information, else by Linux's status
 abbrev pub id_in : Result RawMiscInfo Error → Result (List ℕ) Error → Option ℕ
-id_in misc status = option_or (misc_id misc) (status_number (codes "Pid") status)
+id_in misc status =
+    option_or (option_and_then process_id (result_ok misc)) (status_number (codes "Pid") status)
 
--- how many seconds after the process began the dump was written, where both times are there, that
--- of the beginning isn't 0, and they are in order
-abbrev pub uptime : ℕ → Option ℕ → Option ℕ
-uptime stamp begun = option_and_then (λ begun.
-    if begun == 0 then None else (if nat_le begun stamp then Some (stamp - begun) else None)) begun
-
--- the same by the misc information
+-- how many seconds after the process began, by the misc information, the dump was written, where both
+-- times are there, that of the beginning isn't 0, and they are in order
 abbrev pub uptime_in : ℕ → Result RawMiscInfo Error → Option ℕ
-uptime_in stamp misc = uptime stamp (option_and_then process_create_time (result_ok misc))
+uptime_in stamp misc = option_and_then (λ begun.
+    if begun == 0 then None else (if nat_le begun stamp then Some (stamp - begun) else None))
+    (option_and_then process_create_time (result_ok misc))
 
 -- the process of a dump with these contents
 abbrev pub process_in : Dump → ContentsValue → ProcessFacts

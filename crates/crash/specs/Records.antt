@@ -29,16 +29,16 @@ parameters_in r = take (min r.number_parameters 15) r.exception_information
 -- ---- the text of LLDB
 
 -- the bytes of all parameters, each from its lowest byte on
-abbrev pub parameter_bytes : MINIDUMP_EXCEPTION → List ℕ
+abbrev parameter_bytes : MINIDUMP_EXCEPTION → List ℕ
 parameter_bytes r = flat_map (to_le_bytes w64) r.exception_information
 
 -- a text, with U+FFFD for what isn't UTF-8: none where there are no bytes
-abbrev pub text_unless_empty : List ℕ → Option (List ℕ)
+abbrev text_unless_empty : List ℕ → Option (List ℕ)
 text_unless_empty bytes = if length bytes == 0 then None else Some (utf8_lossy bytes)
 
 -- the flags of a record are those of LLDB, which then writes a text over the parameters: LLDB_FLAG of llvm's
 -- BinaryFormat/Minidump.h, C's constant 'LLDB'
-abbrev pub has_lldb_flag : MINIDUMP_EXCEPTION → Bool
+abbrev has_lldb_flag : MINIDUMP_EXCEPTION → Bool
 has_lldb_flag r = r.exception_flags == 0x4c4c_4442
 
 -- that text, before its first 0, if there is one
@@ -60,7 +60,7 @@ is_access _ code = false
 
 -- an address is the one that Windows gives for a general protection, which x86 and x86-64 have: all bits of
 -- a pointer are set. Other processors have the address of each access
-abbrev pub is_protection_address : Cpu → ℕ → Bool
+abbrev is_protection_address : Cpu → ℕ → Bool
 is_protection_address X86 address = address % 2 ^ 32 == 2 ^ 32 - 1
 is_protection_address X86_64 address = address == 2 ^ 64 - 1
 is_protection_address _ address = false
@@ -74,17 +74,17 @@ is_protection cpu r = (r.exception_code == 0xc0000005 && nat_le 2 r.number_param
     && is_protection_address cpu (slice_index r.exception_information 1))
 
 -- how memory was accessed, by the first parameter of an access of Windows
-abbrev pub access_of_number : ℕ → Option Access
+abbrev access_of_number : ℕ → Option Access
 access_of_number n = if n == 0 then Some Read
     else (if n == 1 then Some Write else (if n == 8 then Some Execute else None))
 
 -- the exceptions whose first parameter this is
-abbrev pub has_access : Cpu → MINIDUMP_EXCEPTION → Bool
+abbrev has_access : Cpu → MINIDUMP_EXCEPTION → Bool
 has_access cpu r = (is_access Windows r.exception_code && nat_le 1 r.number_parameters)
     && (not (has_lldb_flag r) && not (is_protection cpu r))
 
 -- how memory was accessed, by a record of an operating system on a processor
-abbrev pub access_on : Os → Cpu → MINIDUMP_EXCEPTION → Option Access
+abbrev access_on : Os → Cpu → MINIDUMP_EXCEPTION → Option Access
 access_on Windows cpu r =
     if has_access cpu r then access_of_number (slice_index r.exception_information 0) else None
 access_on _ cpu r = None
@@ -106,18 +106,18 @@ signal_code_name User = codes "SI_USER"
 signal_code_name Queue = codes "SI_QUEUE"
 signal_code_name Tkill = codes "SI_TKILL"
 
+-- the user in an address that holds both ids is its high half, which an address of 32 bits lacks
+abbrev pub user_at : PointerWidth → ℕ → Option ℕ
+user_at Bits32 address = None
+user_at _ address = Some (address / 2 ^ 32)
+
 -- the process that sent a signal and its user, by the union of Linux's siginfo, whose bytes are the
--- address of a fault else: `si_pid`, and after it `si_uid`, which an address of 32 bits lacks
-abbrev pub sender_at : SignalCode → PointerWidth → ℕ → Sender
-sender_at code Bits32 address = record {
+-- address of a fault else: `si_pid`, and after it `si_uid`
+abbrev sender_at : SignalCode → PointerWidth → ℕ → Sender
+sender_at code width address = record {
   code = code;
   process = Some (address % 2 ^ 32);
-  user = None;
-}
-sender_at code _ address = record {
-  code = code;
-  process = Some (address % 2 ^ 32);
-  user = Some (address / 2 ^ 32);
+  user = user_at width address;
 }
 
 -- the same by the first two parameters, where Crashpad has them for a signal that is no fault
@@ -128,16 +128,12 @@ sender_of_parameters code parameters = record {
   user = Some (slice_index parameters 1 % 2 ^ 32);
 }
 
--- Linux's SIGPOLL and SIGSYS, of which Crashpad has other fields of that union: `si_band` or
--- `si_call_addr`, as wide as an address and at its place, and after it `si_fd` or `si_syscall`
-abbrev is_poll_or_sys : ℕ → Bool
-is_poll_or_sys signal = signal == 29 || signal == 31
-
--- the first parameter has both ids: it is the first field of these signals, as long as an address. Where
--- that is 32 bits, the second parameter is the field at the place of `si_uid`
-abbrev pub has_both_ids : PointerWidth → ℕ → Bool
+-- the first parameter has both ids: that of Linux's SIGPOLL, 29, and SIGSYS, 31, of which Crashpad has other
+-- fields of that union: `si_band` or `si_call_addr`, as wide as an address and at its place, and after it `si_fd` or
+-- `si_syscall`. Where an address has 32 bits, the second parameter is the field at the place of `si_uid`
+abbrev has_both_ids : PointerWidth → ℕ → Bool
 has_both_ids Bits32 signal = false
-has_both_ids _ signal = is_poll_or_sys signal
+has_both_ids _ signal = signal == 29 || signal == 31
 
 -- the same by the address, else by the parameters: unknown where there are neither
 abbrev pub sender_by : SignalCode → PointerWidth → MINIDUMP_EXCEPTION → Sender
@@ -149,15 +145,15 @@ sender_by code width r =
     else sender_of_parameters code r.exception_information))
 
 -- Linux numbers its signals from 1 to 64, and its processes from 1 to 2^22 - 1
-abbrev pub is_signal : ℕ → Bool
+abbrev is_signal : ℕ → Bool
 is_signal n = nat_le 1 n && nat_le n 64
 
-abbrev pub is_process : ℕ → Bool
+abbrev is_process : ℕ → Bool
 is_process n = nat_le 1 n && nat_lt n (2 ^ 22)
 
 -- a record can be that of an access near 0, as through a null pointer: SIGBUS or SIGSEGV, at an address
 -- that would name a process of root. The address of another fault is that of its instruction
-abbrev pub is_low_access : MINIDUMP_EXCEPTION → Bool
+abbrev is_low_access : MINIDUMP_EXCEPTION → Bool
 is_low_access r =
     (r.exception_code == 7 || r.exception_code == 11) && is_process r.exception_address
 
@@ -167,18 +163,14 @@ abbrev pub is_sent : SignalCode → MINIDUMP_EXCEPTION → Option ℕ → Bool
 is_sent User r process = option_map_or is_process process false && not (is_low_access r)
 is_sent _ r process = true
 
--- the sender, where there is one: the record's code is the signal
-abbrev pub sender_if_sent : MINIDUMP_EXCEPTION → Sender → Option Sender
-sender_if_sent r s =
-    if is_signal r.exception_code && is_sent s.code r s.process then Some s else None
-
--- the same by the record's flags, which are the `si_code`
-abbrev pub sender_with : PointerWidth → MINIDUMP_EXCEPTION → Option Sender
-sender_with width r = option_and_then (λ code. sender_if_sent r (sender_by code width r))
+-- the sender, where there is one: the record's code is the signal, and its flags are the `si_code`
+abbrev sender_with : PointerWidth → MINIDUMP_EXCEPTION → Option Sender
+sender_with width r = option_and_then (λ code. let s = sender_by code width r in
+    if is_signal r.exception_code && is_sent code r s.process then Some s else None)
     (signal_code r.exception_flags)
 
 -- the process that sent the signal of a record on an operating system
-abbrev pub sender_on : Os → Cpu → MINIDUMP_EXCEPTION → Option Sender
+abbrev sender_on : Os → Cpu → MINIDUMP_EXCEPTION → Option Sender
 sender_on Linux cpu r = sender_with (width_of cpu) r
 sender_on Android cpu r = sender_with (width_of cpu) r
 sender_on _ cpu r = None
@@ -191,30 +183,30 @@ sender_in system r = option_and_then (λ s. sender_on s.os s.cpu r) system
 
 -- the signals of faults, which alone have an `si_addr` (sigaction(2)): SIGILL, SIGTRAP, SIGBUS, SIGFPE and
 -- SIGSEGV
-abbrev pub is_fault : ℕ → Bool
+abbrev is_fault : ℕ → Bool
 is_fault signal = signal == 4 || signal == 5 || signal == 7 || signal == 8 || signal == 11
 
 -- a fault has no `si_addr`, by its `si_code`: SI_KERNEL, 0x80, as for a general protection, by an address that
 -- isn't canonical, and for x86's `int3`; SEGV_MTEAERR, 8, and SEGV_CPERR, 10, of SIGSEGV; BUS_ADRALN, 1, of SIGBUS
 -- on x86. Elsewhere 0 is aligned, so that this `si_code` is never at 0
-abbrev pub is_without_address : ℕ → ℕ → Bool
+abbrev is_without_address : ℕ → ℕ → Bool
 is_without_address signal code = code == 0x80
     || (signal == 11 && (code == 8 || code == 10)) || (signal == 7 && code == 1)
 
 -- an address of 0 says nothing: there is no fault, or one without an address
-abbrev pub has_no_fault_address : MINIDUMP_EXCEPTION → Bool
+abbrev has_no_fault_address : MINIDUMP_EXCEPTION → Bool
 has_no_fault_address r = r.exception_address == 0
     && (not (is_fault r.exception_code) || is_without_address r.exception_code r.exception_flags)
 
 -- macOS's kernel gives 0 for a general protection of x86, as for an address that isn't canonical: EXC_BAD_ACCESS, 1,
 -- with EXC_I386_GPFLT, 13 (mach/i386/exception.h)
-abbrev pub has_no_protection_address : MINIDUMP_EXCEPTION → Bool
+abbrev has_no_protection_address : MINIDUMP_EXCEPTION → Bool
 has_no_protection_address r = r.exception_address == 0
     && (r.exception_code == 1 && r.exception_flags == 13)
 
 -- the second parameter of an access of Windows, which is its address, says nothing: LLDB's text stands over it,
 -- or it is that of a general protection
-abbrev pub has_no_access_address : Cpu → MINIDUMP_EXCEPTION → Bool
+abbrev has_no_access_address : Cpu → MINIDUMP_EXCEPTION → Bool
 has_no_access_address cpu r = (has_lldb_flag r
     && (is_access Windows r.exception_code && nat_le 2 r.number_parameters)) || is_protection cpu r
 
@@ -228,7 +220,7 @@ lacks_address _ cpu r = false
 
 -- the flags of an access don't say why it failed: they are LLDB's mark or, but on Windows, 0, which LLDB writes,
 -- too
-abbrev pub says_no_cause : Os → MINIDUMP_EXCEPTION → Bool
+abbrev says_no_cause : Os → MINIDUMP_EXCEPTION → Bool
 says_no_cause Windows r = has_lldb_flag r
 says_no_cause _ r = r.exception_flags == 0 || has_lldb_flag r
 

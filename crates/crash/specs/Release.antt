@@ -25,13 +25,9 @@ release_of r = record {
 }
 
 -- the value of the first pair that has one of two keys
-abbrev pub first_value_in : List (List ℕ × List ℕ) → List ℕ → List ℕ → Option (List ℕ)
-first_value_in pairs key other = option_map (λ p. p.1)
+abbrev pub first_value : List (List ℕ × List ℕ) → List ℕ → List ℕ → Option (List ℕ)
+first_value pairs key other = option_map (λ p. p.1)
     (find (λ p. bytes_eq p.0 key || bytes_eq p.0 other) pairs)
-
--- that of the pairs of a text
-abbrev pub first_value : List ℕ → List ℕ → List ℕ → Option (List ℕ)
-first_value text key other = first_value_in (pairs_of 0x3d text) key other
 
 -- a value has two bytes or more, and a single quote at each end
 abbrev pub is_single_quoted : List ℕ → Bool
@@ -43,10 +39,10 @@ is_single_quoted value = nat_le 2 (length value)
 unfoldable pub without_single_quotes : List ℕ → List ℕ
 without_single_quotes value = if is_single_quoted value then slice_range value 1 (length value - 1) else value
 
--- the same as a text, with U+FFFD for what isn't UTF-8
+-- that of the pairs of a text, without single quotes, and with U+FFFD for what isn't UTF-8
 abbrev pub text_value : List ℕ → List ℕ → List ℕ → Option (List ℕ)
-text_value text key other =
-    option_map (λ value. utf8_lossy (without_single_quotes value)) (first_value text key other)
+text_value text key other = option_map (λ value. utf8_lossy (without_single_quotes value))
+    (first_value (pairs_of 0x3d text) key other)
 
 -- the release of a text: each value by its key in lsb-release, or by that in os-release
 abbrev pub release_by : List ℕ → ReleaseValue

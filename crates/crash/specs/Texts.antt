@@ -38,13 +38,10 @@ abbrev pub threads_lacking : Result ThreadNames Error → ℕ
 threads_lacking found = option_map_or (λ all. all.unreadable) (result_ok found) 0
 
 -- of an assertion: its expression, its function and its file
-abbrev pub texts_lacking : MINIDUMP_ASSERTION_INFO → ℕ
-texts_lacking a = one_if (is_none (text_before_nul a.expression))
-    + one_if (is_none (text_before_nul a.function)) + one_if (is_none (text_before_nul a.file))
-
--- of the stream that has one
 abbrev pub assertion_lacking : Result MINIDUMP_ASSERTION_INFO Error → ℕ
-assertion_lacking found = option_map_or (λ a. texts_lacking a) (result_ok found) 0
+assertion_lacking found = option_map_or (λ a. one_if (is_none (text_before_nul a.expression))
+    + one_if (is_none (text_before_nul a.function)) + one_if (is_none (text_before_nul a.file)))
+    (result_ok found) 0
 
 -- of macOS's boot arguments: their text
 abbrev pub boot_args_lacking : Result BootArgs Error → ℕ

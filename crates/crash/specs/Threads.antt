@@ -1,8 +1,8 @@
 -- The threads of a process, and which of them crashed.
-use Rattle.std.specs.Prelude.{ℕ, ◌==◌, ◌++◌, Bool, false, true, List, [], ◌∷◌, map}
+use Rattle.std.specs.Prelude.{ℕ, ◌==◌, ◌++◌, Bool, false, true, List, [], ◌∷◌, length, map}
 use Rattle.std.specs.Prelude.{is_some, Option, Some, None, Result, Ok, Err}
 use Rattle.std.specs.Prelude.{if◌then◌else◌, slice_get, string_bytes, unwrap_or}
-use Rattle.std.specs.Option.{option_and_then, option_map}
+use Rattle.std.specs.Option.{option_and_then, option_map, option_map_or}
 use Rattle.std.specs.Result.{result_ok}
 use Rattle.minidump.specs.declared.CrashReason.{CrashReason}
 use Rattle.minidump.specs.declared.Error.{Error}
@@ -116,16 +116,17 @@ thread_in names scan c e t = record {
 abbrev pub entries_in : Result (List Thread) Error → List Thread
 entries_in threads = unwrap_or (result_ok threads) []
 
--- the threads of the list
-abbrev pub listed_in : Lists → ℕ → ContentsValue → Option Exception → List ThreadValue
-listed_in names scan c e = map (thread_in names scan c e) (entries_in c.threads.threads)
-
 -- a thread of the list has an id
 abbrev pub has_thread : ℕ → Result (List Thread) Error → Bool
 has_thread id (Ok threads) = is_some (last_with id threads)
 has_thread id (Err _) = false
 
--- the thread of an exception, which the list lacks
+-- an exception where the list lacks its thread
+abbrev pub unlisted : ContentsValue → Option Exception → Option Exception
+unlisted c (Some e) = if has_thread e.thread_id c.threads.threads then None else Some e
+unlisted c None = None
+
+-- the thread of such an exception
 abbrev pub extra_in : ℕ → ContentsValue → Exception → ThreadValue
 extra_in scan c e = record {
   id = e.thread_id;
@@ -140,15 +141,10 @@ extra_in scan c e = record {
   last_error = None;
 }
 
--- that thread where there is an exception and the list lacks its thread
-abbrev pub extra_threads : ℕ → ContentsValue → Option Exception → List ThreadValue
-extra_threads scan c (Some e) =
-    if has_thread e.thread_id c.threads.threads then [] else extra_in scan c e ∷ []
-extra_threads scan c None = []
-
 -- the threads of the list, and after them that of the exception where the list lacks it
 abbrev pub all_threads : Lists → ℕ → ContentsValue → Option Exception → List ThreadValue
-all_threads names scan c e = listed_in names scan c e ++ extra_threads scan c e
+all_threads names scan c e = map (thread_in names scan c e) (entries_in c.threads.threads)
+    ++ option_map_or (λ e. extra_in scan c e ∷ []) (unlisted c e) []
 
 -- the index of the thread that crashed: the last of the exception's id
 abbrev pub crashing_at : List ThreadValue → Option Exception → Option ℕ
@@ -174,9 +170,7 @@ crashed_thread t = option_and_then
 
 -- the stack and the context by which the thread is walked that the list lacks
 abbrev pub extra_walked : ContentsValue → Option Exception → Option (StackValue × MinidumpContext)
-extra_walked c (Some e) =
-    if has_thread e.thread_id c.threads.threads then None else exception_walked c e
-extra_walked c None = None
+extra_walked c e = option_and_then (exception_walked c) (unlisted c e)
 
 -- those of each thread of the list, and after them of the thread that it lacks
 abbrev pub all_walked : ContentsValue → Option Exception → List (Option (StackValue × MinidumpContext))

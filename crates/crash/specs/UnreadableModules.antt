@@ -1,6 +1,6 @@
 -- The entries of the list of modules that can't be read. The format has no list then: one such entry
 -- makes it an error.
-use Rattle.std.specs.Prelude.{ℕ, List, [], is_none, is_some, Option, Some, None}
+use Rattle.std.specs.Prelude.{ℕ, List, [], is_none, Option, Some, None}
 use Rattle.std.specs.Prelude.{if◌then◌else◌, unwrap_or}
 use Rattle.std.specs.List.{enumerate_from, filter_map}
 use Rattle.std.specs.Option.{option_map}
@@ -19,15 +19,12 @@ use Rattle.crash.specs.declared.unreadable_modules.ModulePart.{ModulePart}
 use Rattle.crash.specs.declared.unreadable_modules.ModulePart.TheVariants.{CodeView, Name}
 use Rattle.crash.specs.declared.unreadable_modules.UnreadableModule.{UnreadableModule}
 
--- what of an entry can't be read: its name, else its CodeView record
-abbrev pub part_of : Endian → List ℕ → MINIDUMP_MODULE → Option ModulePart
-part_of order file raw = if is_none (text16 order raw.module_name_rva file) then Some Name
-    else (if is_err (read_module order None file raw) then Some CodeView else None)
-
--- the same of an entry that has addresses: any other is no module
+-- what of an entry can't be read: its name, else its CodeView record. An entry that has no addresses is
+-- no module
 abbrev pub part_in : Endian → List ℕ → MINIDUMP_MODULE → Option ModulePart
-part_in order file raw =
-    if is_some (range_of raw.base_of_image raw.size_of_image) then part_of order file raw else None
+part_in order file raw = if is_none (range_of raw.base_of_image raw.size_of_image) then None
+    else (if is_none (text16 order raw.module_name_rva file) then Some Name
+    else (if is_err (read_module order None file raw) then Some CodeView else None))
 
 -- an entry and its index, where something of it can't be read
 abbrev pub unreadable_in : Endian → List ℕ → ℕ × MINIDUMP_MODULE → Option UnreadableModule

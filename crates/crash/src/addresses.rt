@@ -1,22 +1,17 @@
 //! What is known of an address.
-ghost use Rattle.std.specs.Prelude.{◌≡◌, [], false, map, unwrap_or};
-ghost use Rattle.std.specs.Option.{option_map_or};
+ghost use Rattle.std.specs.Prelude.{◌≡◌, [], map, unwrap_or};
 ghost use Rattle.std.specs.Result.{result_ok};
 ghost use Rattle.minidump.specs.Below.Contexts.Context.{map_ok};
-ghost use Rattle.minidump.specs.Below.Index.Lookup.{has_address};
-ghost use Rattle.minidump.specs.Below.MemoryLists.UnifiedInfo.{info_region};
-ghost use Rattle.minidump.specs.Below.Modules.UnloadedModule.{range_of_unloaded, unloaded_of};
+ghost use Rattle.minidump.specs.Below.Modules.UnloadedModule.{unloaded_of};
 ghost use Rattle.minidump.specs.Promise.{thread_list_stream, unloaded_module_list_stream};
-ghost use Rattle.crash.specs.Addresses.{canonical_on, facts_of, has_code, has_stack, is_below_stack};
-ghost use Rattle.crash.specs.Addresses.{is_canonical, is_guarded, is_placed, memory_at, memory_of};
-ghost use Rattle.crash.specs.Addresses.{null_offset, stack_above, stack_at, state_of};
-ghost use Rattle.crash.specs.Addresses.{state_of_number, unloaded_at};
+ghost use Rattle.crash.specs.Addresses.{facts_of, has_code, is_canonical, is_placed, memory_at};
+ghost use Rattle.crash.specs.Addresses.{stack_above, stack_at, state_of_number, unloaded_at};
 ghost use Rattle.crash.specs.Contents.{contents_of};
 ghost use Rattle.crash.specs.Contexts.{system_of};
 
 use crate::contents::Contents;
 use crate::last::last_index;
-use crate::stacks::{StackRange, named_stack};
+use crate::stacks::named_stack;
 use crate::thread_facts::entries_of;
 use bitflags::Flags;
 use minidump::format::{MemoryProtection, MemoryState};
@@ -93,7 +88,7 @@ pub(crate) fn facts_of(contents: &Contents<'_>, address: u64) -> AddressFacts
 {
     AddressFacts {
         address,
-        null_offset: null_offset(address),
+        null_offset: (address < 0x1_0000).then_some(address),
         is_canonical: is_canonical(contents, address),
         module: module_place(&contents.space.modules, address),
         unloaded: unloaded_at(&contents.space.unloaded, address),
@@ -103,38 +98,18 @@ pub(crate) fn facts_of(contents: &Contents<'_>, address: u64) -> AddressFacts
     }
 }
 
-// Returns an address if it is near 0.
-fn null_offset(address: u64) -> Option<u64>
-    ensures { result ≡ null_offset address }
-{
-    if address < 0x1_0000 {
-        Some(address)
-    } else {
-        None
-    }
-}
-
 // Tells whether the processor can access an address.
 fn is_canonical(contents: &Contents<'_>, address: u64) -> bool
     ensures { result ≡ is_canonical (system_of (contents_of contents.now)) address }
 {
     match &contents.system.system {
-        Ok(system) => canonical_on(system.cpu, address),
+        Ok(system) => match system.cpu {
+            Cpu::X86_64 => address < 0x8000_0000_0000 || address >= 0xffff_8000_0000_0000,
+            _ => true,
+        },
         Err(_) => true,
     }
 }
-
-// Tells whether a processor can access an address.
-fn canonical_on(cpu: Cpu, address: u64) -> bool
-    ensures { result ≡ canonical_on cpu address }
-{
-    match cpu {
-        Cpu::X86_64 => address < 0x8000_0000_0000 || address >= 0xffff_8000_0000_0000,
-        _ => true,
-    }
-}
-
-// ---- unloaded modules
 
 // Returns the index of the last unloaded module that contains an address.
 fn unloaded_at(list: &Result<MinidumpUnloadedModuleList, Error>, address: u64) -> Option<usize>
@@ -151,17 +126,10 @@ fn unloaded_at(list: &Result<MinidumpUnloadedModuleList, Error>, address: u64) -
 fn last_unloaded(modules: &[MinidumpUnloadedModule], address: u64) -> Option<usize>
     ensures { result ≡ unloaded_at (map unloaded_of modules.now) address }
 {
-    last_index(modules, |unloaded| contains(unloaded, address))
-}
-
-// Tells whether an unloaded module contains an address.
-fn contains(unloaded: &MinidumpUnloadedModule, address: u64) -> bool
-    ensures { result ≡ has_address range_of_unloaded address (unloaded_of unloaded.now) }
-{
-    match unloaded.memory_range() {
+    last_index(modules, |unloaded| match unloaded.memory_range() {
         Some(range) => range.start <= address && address <= range.end,
         None => false,
-    }
+    })
 }
 
 // ---- stacks
@@ -171,21 +139,13 @@ fn stack_at(threads: &Result<MinidumpThreadList<'_>, Error>, address: u64) -> Op
     ensures { result ≡ stack_at
         (unwrap_or (result_ok (map_ok thread_list_stream.value threads.now)) []) address }
 {
-    let threads = entries_of(threads);
     last_index(
-        threads,
-        |thread| has_stack(address, named_stack(&thread.raw.stack)),
+        entries_of(threads),
+        |thread| match named_stack(&thread.raw.stack) {
+            Some(stack) => stack.base <= address && address - stack.base < stack.size,
+            None => false,
+        },
     )
-}
-
-// Tells whether a stack contains an address.
-fn has_stack(address: u64, stack: Option<StackRange>) -> bool
-    ensures { result ≡ has_stack address stack }
-{
-    match stack {
-        Some(stack) => stack.base <= address && address - stack.base < stack.size,
-        None => false,
-    }
 }
 
 // Returns the index of the last thread whose stack begins a little above an address.
@@ -193,21 +153,13 @@ fn stack_above(threads: &Result<MinidumpThreadList<'_>, Error>, address: u64) ->
     ensures { result ≡ stack_above
         (unwrap_or (result_ok (map_ok thread_list_stream.value threads.now)) []) address }
 {
-    let threads = entries_of(threads);
     last_index(
-        threads,
-        |thread| is_below_stack(address, named_stack(&thread.raw.stack)),
+        entries_of(threads),
+        |thread| match named_stack(&thread.raw.stack) {
+            Some(stack) => address < stack.base && stack.base - address <= 4096,
+            None => false,
+        },
     )
-}
-
-// Tells whether a stack begins a little above an address.
-fn is_below_stack(address: u64, stack: Option<StackRange>) -> bool
-    ensures { result ≡ is_below_stack address stack }
-{
-    match stack {
-        Some(stack) => address < stack.base && stack.base - address <= 4096,
-        None => false,
-    }
 }
 
 // ---- memory
@@ -217,17 +169,8 @@ fn is_below_stack(address: u64, stack: Option<StackRange>) -> bool
 pub(crate) fn has_code(contents: &Contents<'_>, address: u64) -> bool
     ensures { result ≡ has_code (contents_of contents.now) address }
 {
-    is_code(&contents.space.modules, address) || is_executable(memory_at(contents, address))
-}
-
-// Tells whether memory is known to be executable.
-fn is_executable(memory: Option<AddressMemory>) -> bool
-    ensures { result ≡ option_map_or (λ m. m.is_executable) memory false }
-{
-    match memory {
-        Some(memory) => memory.is_executable,
-        None => false,
-    }
+    is_code(&contents.space.modules, address)
+        || memory_at(contents, address).is_some_and(|memory| memory.is_executable)
 }
 
 // Returns what is known of the memory that contains an address.
@@ -235,30 +178,20 @@ fn memory_at(contents: &Contents<'_>, address: u64) -> Option<AddressMemory>
     ensures { result ≡ memory_at (contents_of contents.now) address }
 {
     let region = contents.space.infos.memory_info_at_address(address)?;
-    Some(memory_of(region))
-}
-
-// Returns what is known of the memory of a region.
-fn memory_of(region: UnifiedMemoryInfo<'_, '_>) -> AddressMemory
-    ensures { result ≡ memory_of (info_region region.entry) }
-{
-    AddressMemory {
-        state: state_of(region),
+    let (state, is_guarded) = match region {
+        UnifiedMemoryInfo::Info(info) => (
+            state_of_number(info.raw.state),
+            info.protection.contains(MemoryProtection::PAGE_GUARD),
+        ),
+        UnifiedMemoryInfo::Map(_) => (RegionState::Committed, false),
+    };
+    Some(AddressMemory {
+        state,
         is_readable: region.is_readable(),
         is_writable: region.is_writable(),
         is_executable: region.is_executable(),
-        is_guarded: is_guarded(region),
-    }
-}
-
-// Returns the state of a region.
-fn state_of(region: UnifiedMemoryInfo<'_, '_>) -> RegionState
-    ensures { result ≡ state_of (info_region region.entry) }
-{
-    match region {
-        UnifiedMemoryInfo::Info(info) => state_of_number(info.raw.state),
-        UnifiedMemoryInfo::Map(_) => RegionState::Committed,
-    }
+        is_guarded,
+    })
 }
 
 // Returns a state by its number.
@@ -271,15 +204,5 @@ fn state_of_number(number: u32) -> RegionState
         RegionState::Reserved
     } else {
         RegionState::Committed
-    }
-}
-
-// Tells whether a region is guarded.
-fn is_guarded(region: UnifiedMemoryInfo<'_, '_>) -> bool
-    ensures { result ≡ is_guarded (info_region region.entry) }
-{
-    match region {
-        UnifiedMemoryInfo::Info(info) => info.protection.contains(MemoryProtection::PAGE_GUARD),
-        UnifiedMemoryInfo::Map(_) => false,
     }
 }

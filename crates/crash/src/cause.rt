@@ -2,15 +2,15 @@ ghost use Rattle.std.specs.Prelude.{◌≡◌, IfOk, IsOkUnless, map, string_byt
 ghost use Rattle.std.specs.Option.{option_copied, option_map};
 ghost use Rattle.minidump.specs.Below.Contexts.Context.{map_ok};
 ghost use Rattle.minidump.specs.Promise.{exception_stream, system_info_stream};
-ghost use Rattle.crash.specs.Cause.{address_at, address_on, address_unless, cause_in, cause_of};
-ghost use Rattle.crash.specs.Cause.{counted_exception, exception_in, exception_of, exceptions_in};
-ghost use Rattle.crash.specs.Cause.{has_no_address, is_instruction, is_where_it_stood, reason_in};
+ghost use Rattle.crash.specs.Cause.{address_at, address_unless, cause_in, cause_of};
+ghost use Rattle.crash.specs.Cause.{counted_exception, exception_in, exception_of, is_instruction};
+ghost use Rattle.crash.specs.Cause.{reason_in};
 ghost use Rattle.crash.specs.Contents.{contents_of};
 ghost use Rattle.crash.specs.Counting.{counted};
 
 use crate::addresses::{AddressFacts, facts_of, has_code};
 use crate::contents::Contents;
-use crate::contexts::{ContextProblem, context_with, named_bytes, problem_in};
+use crate::contexts::{ContextProblem, context_on, named_bytes, problem_in};
 use crate::counting::counting;
 use crate::each::{MakeItem, make_items};
 use crate::frames::context_of;
@@ -110,7 +110,8 @@ pub(crate) fn cause_of(
         (λ cause. cause_of cause ≡ cause_in names.now (contents_of contents.now)) }
     ensures memory { IsOkUnless result Error.OutOfMemory }
 {
-    let exceptions = exceptions_of(alloc, contents, names)?;
+    let each = EachException { contents, names };
+    let exceptions = make_items(alloc, &each, contents.threads.exceptions.as_slice())?;
     let counts = counting(contents.threads.exceptions.as_slice());
     let address = address_of(contents, exceptions.as_slice(), counts);
     Ok(CrashCause {
@@ -118,20 +119,6 @@ pub(crate) fn cause_of(
         counts,
         address,
     })
-}
-
-// Returns the exceptions.
-fn exceptions_of(
-    alloc: Global,
-    contents: &Contents<'_>,
-    names: &CodeNames<'_>,
-) -> Result<Vec<Result<CrashException, Error>>, Error>
-    ensures exceptions { IfOk result (λ es. map (map_ok exception_of) es.items
-        ≡ exceptions_in names.now (contents_of contents.now)) }
-    ensures memory { IsOkUnless result Error.OutOfMemory }
-{
-    let each = EachException { contents, names };
-    make_items(alloc, &each, contents.threads.exceptions.as_slice())
 }
 
 // An exception of the list, or why it can't be read.
@@ -202,7 +189,8 @@ fn exception_of(
     })
 }
 
-// Returns the address of the crash, unless a process sent the signal.
+// Returns the address of the crash where the system is known, unless a process sent the signal, or the
+// record has none: none at all, or one that says only where the thread stood.
 fn address_unless(
     contents: &Contents<'_>,
     sender: Option<Sender>,
@@ -213,56 +201,16 @@ fn address_unless(
         (option_map system_info_stream.value (option_copied system.entry))
         (exception_stream.value exception.now) }
 {
-    match (sender, system) {
-        (None, Some(system)) => address_on(contents, exception, system),
-        _ => None,
-    }
-}
-
-// Returns the address of the crash on a system, unless the record has none.
-fn address_on(
-    contents: &Contents<'_>,
-    exception: &MinidumpException<'_>,
-    system: &MinidumpSystemInfo,
-) -> Option<u64>
-    ensures { result ≡ address_on (contents_of contents.now)
-        (system_info_stream.value system.now) (exception_stream.value exception.now) }
-{
-    if has_no_address(contents, exception, system) {
-        None
-    } else {
-        Some(exception.get_crash_address(system.os, system.cpu))
-    }
-}
-
-// Tells whether the record of an exception has no address of a crash: none at all, or one that says
-// only where the thread stood.
-fn has_no_address(
-    contents: &Contents<'_>,
-    exception: &MinidumpException<'_>,
-    system: &MinidumpSystemInfo,
-) -> bool
-    ensures { result ≡ has_no_address (contents_of contents.now)
-        (system_info_stream.value system.now) (exception_stream.value exception.now) }
-{
+    let (None, Some(system)) = (sender, system) else {
+        return None;
+    };
     let record = &exception.raw.exception_record;
     let address = exception.get_crash_address(system.os, system.cpu);
-    lacks_address(system.os, system.cpu, record)
-        || (may_be_instruction(system.os, record)
-            && is_where_it_stood(contents, exception, system, address))
-}
-
-// Tells whether an address says only where the thread of an exception stood.
-fn is_where_it_stood(
-    contents: &Contents<'_>,
-    exception: &MinidumpException<'_>,
-    system: &MinidumpSystemInfo,
-    address: u64,
-) -> bool
-    ensures { result ≡ is_where_it_stood (contents_of contents.now)
-        (system_info_stream.value system.now) (exception_stream.value exception.now) address }
-{
-    is_instruction(exception, system, address) && has_code(contents, address)
+    let has_no_address = lacks_address(system.os, system.cpu, record)
+        || may_be_instruction(system.os, record)
+            && is_instruction(exception, system, address)
+            && has_code(contents, address);
+    if has_no_address { None } else { Some(address) }
 }
 
 // Tells whether an address is the instruction pointer of an exception's own context.
@@ -274,7 +222,10 @@ fn is_instruction(
     ensures { result ≡ is_instruction (system_info_stream.value system.now)
         (exception_stream.value exception.now) address }
 {
-    match context_with(system, exception) {
+    let Some(bytes) = exception.context_bytes() else {
+        return false;
+    };
+    match context_on(system, exception.endian(), bytes) {
         Some(found) => instruction_pointer_of(&context_of(&found)) == address,
         None => false,
     }
@@ -292,13 +243,11 @@ fn reason_of(
         (exception_stream.value exception.now)) }
     ensures memory { IsOkUnless result Error.OutOfMemory }
 {
-    match system {
-        Some(system) => {
-            let reason = exception.get_crash_reason(system.os, system.cpu, names);
-            Ok(Some(reason.text(alloc, names)?))
-        }
-        None => Ok(None),
-    }
+    let Some(system) = system else {
+        return Ok(None);
+    };
+    let reason = exception.get_crash_reason(system.os, system.cpu, names);
+    Ok(Some(reason.text(alloc, names)?))
 }
 
 // Returns what is known of the address of the crash.

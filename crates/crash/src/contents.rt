@@ -126,10 +126,9 @@ fn code_bits_of(system: &Result<MinidumpSystemInfo, Error>, modules: &MinidumpMo
     ensures { result ≡ code_bits_in (map_ok system_info_stream.value system.now)
         (module_list_of modules.now) }
 {
-    match system {
-        Ok(system) => code_bits(system.os, system.cpu, modules),
-        Err(_) => 64,
-    }
+    system
+        .as_ref()
+        .map_or(64, |system| code_bits(system.os, system.cpu, modules))
 }
 
 // Reads the streams of the system, and those of the crash and its threads.

@@ -1,16 +1,11 @@
-ghost use Rattle.std.specs.Prelude.{◌≡◌, ◌≤◌, ◌<◌, IfOk, IfSome, Some, is_some, length, map};
+ghost use Rattle.std.specs.Prelude.{◌≡◌, ◌≤◌, ◌<◌, IfOk, IfSome, Some, length, map};
 ghost use Rattle.std.specs.Option.{option_copied, option_map};
-ghost use Rattle.minidump.specs.Below.Bytes.Span.{record_at};
-ghost use Rattle.minidump.specs.Below.Format.ContextArm64.{context_arm64_old};
 ghost use Rattle.minidump.specs.Promise.{exception_stream, system_info_stream};
 ghost use Rattle.minidump.specs.Thread.{accepted_context, thread_of};
 ghost use Rattle.crash.specs.Contents.{contents_of};
 ghost use Rattle.crash.specs.Contexts.{any_context, context_at, context_by, context_of, context_on};
-ghost use Rattle.crash.specs.Contexts.{first_found, first_of, found_in, has_general, lengths};
-ghost use Rattle.crash.specs.Contexts.{named_bytes, of_origin, old_arm64, old_on};
-ghost use Rattle.crash.specs.Contexts.{on_thread, padded, problem_by, problem_in, registers_in, short_by};
-ghost use Rattle.crash.specs.Contexts.{register_values, short_context};
-ghost use Rattle.crash.specs.Contexts.{system_of, whole_context, whole_only};
+ghost use Rattle.crash.specs.Contexts.{found_in, has_general, lengths, named_bytes, of_origin, old_on};
+ghost use Rattle.crash.specs.Contexts.{padded, problem_in, register_values, short_context, system_of};
 
 use crate::contents::Contents;
 use minidump::format::{CONTEXT_ARM64_OLD, MINIDUMP_LOCATION_DESCRIPTOR};
@@ -85,23 +80,15 @@ fn read_raw(system: &MinidumpSystemInfo, endian: Endian, bytes: &[u8]) -> Option
     Some(context.raw)
 }
 
-// Returns a whole context.
-fn whole_context(raw: Option<MinidumpRawContext>) -> Option<FoundContext>
-    ensures { result ≡ whole_context raw }
+// Returns the context at the start of the bytes in Breakpad's first layout of ARM64, on a processor of
+// the layout that came after it.
+fn old_on(cpu: Cpu, endian: Endian, bytes: &[u8]) -> Option<MinidumpRawContext>
+    ensures { result ≡ old_on cpu endian bytes.now }
 {
-    Some(FoundContext {
-        raw: raw?,
-        short: None,
-    })
-}
-
-// ---- contexts in another layout
-
-// Returns the context at the start of the bytes in Breakpad's first layout of ARM64.
-fn old_arm64(endian: Endian, bytes: &[u8]) -> Option<MinidumpRawContext>
-    ensures { result ≡ old_arm64 endian bytes.now }
-{
-    let context = old_record(endian, bytes)?;
+    let Cpu::Arm64 = cpu else {
+        return None;
+    };
+    let context: CONTEXT_ARM64_OLD = Source::new(bytes).record(0, endian, &mut Steps::new())?;
     if context.context_flags & 0x8000_0006 == 0x8000_0006 {
         Some(MinidumpRawContext::OldArm64(context))
     } else {
@@ -109,31 +96,25 @@ fn old_arm64(endian: Endian, bytes: &[u8]) -> Option<MinidumpRawContext>
     }
 }
 
-// Returns the record of that layout.
-fn old_record(endian: Endian, bytes: &[u8]) -> Option<CONTEXT_ARM64_OLD>
-    ensures { result ≡ record_at context_arm64_old endian 0 bytes.now }
-{
-    Source::new(bytes).record(0, endian, &mut Steps::new())
-}
-
-// Returns the same on a processor of the layout that came after it.
-fn old_on(cpu: Cpu, endian: Endian, bytes: &[u8]) -> Option<MinidumpRawContext>
-    ensures { result ≡ old_on cpu endian bytes.now }
-{
-    match cpu {
-        Cpu::Arm64 => old_arm64(endian, bytes),
-        _ => None,
-    }
-}
-
 // ---- contexts that are cut after the general registers
 
-// Returns the context of which bytes are the front.
+// Returns the context of which bytes are the front, which ends with the general registers or after
+// them.
 fn short_context(system: &MinidumpSystemInfo, endian: Endian, bytes: &[u8]) -> Option<FoundContext>
     ensures { result ≡ short_context (system_info_stream.value system.now) endian bytes.now }
 {
     let (least, whole) = lengths(system.cpu)?;
-    short_by(system, endian, bytes, least, whole)
+    let size = bytes.len();
+    if size < least || size >= whole {
+        return None;
+    }
+    let raw = read_padded(system, endian, bytes, whole)?;
+    if has_general(&raw) {
+        let short = Some(ShortContext { size, whole });
+        Some(FoundContext { raw, short })
+    } else {
+        None
+    }
 }
 
 // Returns how many bytes of a processor's context end with its general registers, and how many it
@@ -146,32 +127,6 @@ fn lengths(cpu: Cpu) -> Option<(usize, usize)>
         Cpu::X86_64 => Some((0x100, 1232)),
         Cpu::Arm64 => Some((0x110, 912)),
         _ => None,
-    }
-}
-
-// Returns the context of which bytes are the front, which ends with the general registers or after
-// them.
-fn short_by(
-    system: &MinidumpSystemInfo,
-    endian: Endian,
-    bytes: &[u8],
-    least: usize,
-    whole: usize,
-) -> Option<FoundContext>
-    requires { whole ≤ 1232 }
-    ensures { result ≡ short_by (system_info_stream.value system.now) endian bytes.now
-        (least, whole) }
-{
-    let size = bytes.len();
-    if size < least || size >= whole {
-        return None;
-    }
-    let raw = read_padded(system, endian, bytes, whole)?;
-    if has_general(&raw) {
-        let short = Some(ShortContext { size, whole });
-        Some(FoundContext { raw, short })
-    } else {
-        None
     }
 }
 
@@ -207,11 +162,17 @@ fn read_padded(
 // ---- the context of a thread
 
 // Returns the context that bytes hold: whole, in any layout, or cut after its general registers.
-fn context_on(system: &MinidumpSystemInfo, endian: Endian, bytes: &[u8]) -> Option<FoundContext>
+pub(crate) fn context_on(
+    system: &MinidumpSystemInfo,
+    endian: Endian,
+    bytes: &[u8],
+) -> Option<FoundContext>
     ensures { result ≡ context_on (system_info_stream.value system.now) endian bytes.now }
 {
-    let raw = read_raw(system, endian, bytes).or(old_on(system.cpu, endian, bytes));
-    whole_context(raw).or(short_context(system, endian, bytes))
+    match read_raw(system, endian, bytes).or(old_on(system.cpu, endian, bytes)) {
+        Some(raw) => Some(FoundContext { raw, short: None }),
+        None => short_context(system, endian, bytes),
+    }
 }
 
 // Returns the same, if the system is known and the bytes are in the file.
@@ -237,48 +198,8 @@ pub(crate) fn context_at(
     any_context(contents, exception.endian(), exception.context_bytes())
 }
 
-// Returns the same on a system.
-pub(crate) fn context_with(
-    system: &MinidumpSystemInfo,
-    exception: &MinidumpException<'_>,
-) -> Option<FoundContext>
-    ensures { result ≡ any_context (Some (system_info_stream.value system.now))
-        (exception_stream.value exception.now).order (exception_stream.value exception.now).context }
-{
-    let bytes = exception.context_bytes()?;
-    context_on(system, exception.endian(), bytes)
-}
-
-// Returns the own context of a thread.
-pub(crate) fn own_context(
-    contents: &Contents<'_>,
-    thread: &MinidumpThread<'_>,
-) -> Option<FoundContext>
-    ensures { result ≡ any_context (system_of (contents_of contents.now)) (thread_of thread.now).order
-        (thread_of thread.now).context }
-{
-    any_context(contents, thread.endian(), thread.context_bytes())
-}
-
-// Returns the context of an exception, if it happened on the thread with an id.
-fn on_thread(
-    contents: &Contents<'_>,
-    exception: Option<&MinidumpException<'_>>,
-    id: u32,
-) -> Option<FoundContext>
-    ensures { result ≡ on_thread (contents_of contents.now)
-        (option_map exception_stream.value (option_copied exception.entry)) id }
-{
-    let exception = exception?;
-    if exception.thread_id == id {
-        context_at(contents, exception)
-    } else {
-        None
-    }
-}
-
-// Returns the context by which the registers of a thread are known, and whose it is, by the
-// exception that counts.
+// Returns the context by which the registers of a thread are known, and whose it is: that of the
+// exception that counts, if it happened on the thread, else its own, one that is whole first.
 pub(crate) fn found_context(
     contents: &Contents<'_>,
     exception: Option<&MinidumpException<'_>>,
@@ -287,37 +208,19 @@ pub(crate) fn found_context(
     ensures { result ≡ found_in (contents_of contents.now)
         (option_map exception_stream.value (option_copied exception.entry)) (thread_of thread.now) }
 {
-    let excepted = on_thread(contents, exception, thread.raw.thread_id);
-    first_found(excepted, own_context(contents, thread))
-}
-
-// Returns the first of the exception's and the own context that is whole, else the first of them.
-fn first_found(
-    exception: Option<FoundContext>,
-    own: Option<FoundContext>,
-) -> Option<(ContextOrigin, FoundContext)>
-    ensures { result ≡ first_found exception own }
-{
-    first_of(whole_only(exception), whole_only(own)).or(first_of(exception, own))
-}
-
-// Returns the first of the exception's and the own context.
-fn first_of(
-    exception: Option<FoundContext>,
-    own: Option<FoundContext>,
-) -> Option<(ContextOrigin, FoundContext)>
-    ensures { result ≡ first_of exception own }
-{
-    of_origin(ContextOrigin::OfException, exception).or(of_origin(ContextOrigin::OfThread, own))
-}
-
-// Returns a context, if it is whole.
-fn whole_only(context: Option<FoundContext>) -> Option<FoundContext>
-    ensures { result ≡ whole_only context }
-{
-    match context {
-        Some(found) if found.short.is_none() => Some(found),
+    let excepted = match exception {
+        Some(exception) if exception.thread_id == thread.raw.thread_id => {
+            context_at(contents, exception)
+        }
         _ => None,
+    };
+    let own = any_context(contents, thread.endian(), thread.context_bytes());
+    match (excepted, own) {
+        (Some(excepted), Some(own)) if excepted.short.is_some() && own.short.is_none() => {
+            Some((ContextOrigin::OfThread, own))
+        }
+        (Some(excepted), _) => Some((ContextOrigin::OfException, excepted)),
+        (None, own) => Some((ContextOrigin::OfThread, own?)),
     }
 }
 
@@ -338,30 +241,16 @@ pub(crate) fn registers_of(
 ) -> Result<Option<CrashContext>, AllocError>
     ensures { IfOk result (λ c. option_map context_of c ≡ option_map context_by context) }
 {
-    match context {
-        Some((origin, found)) => {
-            let raw = MinidumpContext::from_raw(found.raw);
-            Ok(Some(context_by(alloc, origin, found.short, &raw)?))
-        }
-        None => Ok(None),
-    }
-}
-
-// Returns the registers of a context.
-fn context_by(
-    alloc: Global,
-    origin: ContextOrigin,
-    short: Option<ShortContext>,
-    context: &MinidumpContext,
-) -> Result<CrashContext, AllocError>
-    ensures { IfOk result (λ c. context_of c ≡ registers_in origin short context.now.raw) }
-{
-    Ok(CrashContext {
-        registers: register_values(alloc, context)?,
+    let Some((origin, found)) = context else {
+        return Ok(None);
+    };
+    let context = MinidumpContext::from_raw(found.raw);
+    Ok(Some(CrashContext {
+        registers: register_values(alloc, &context)?,
         size: context.register_size(),
         origin,
-        short,
-    })
+        short: found.short,
+    }))
 }
 
 // Returns the values of the registers of a context, each with its name, in the order of the processor.
@@ -400,26 +289,12 @@ pub(crate) fn problem_in(
     ensures { result ≡ problem_in (system_of (contents_of contents.now)) endian
         (option_copied bytes.entry) }
 {
-    let context = any_context(contents, endian, bytes);
-    problem_by(bytes, is_known(contents), context.is_some())
-}
-
-// Tells whether the system is known.
-fn is_known(contents: &Contents<'_>) -> bool
-    ensures { result ≡ is_some (system_of (contents_of contents.now)) }
-{
-    contents.system.system.is_ok()
-}
-
-// Returns why there are no registers in the bytes of a context, by whether the system is known and
-// whether it accepts the bytes.
-fn problem_by(bytes: Option<&[u8]>, is_known: bool, is_accepted: bool) -> Option<ContextProblem>
-    ensures { result ≡ problem_by is_known is_accepted (option_copied bytes.entry) }
-{
-    match bytes {
-        None => Some(ContextProblem::Outside),
-        Some(_) if is_accepted => None,
-        Some(bytes) if is_known => Some(ContextProblem::NotAccepted { size: bytes.len() }),
-        Some(_) => Some(ContextProblem::NoSystem),
+    match (bytes, &contents.system.system) {
+        (None, _) => Some(ContextProblem::Outside),
+        (Some(_), Err(_)) => Some(ContextProblem::NoSystem),
+        (Some(bytes), Ok(system)) => match context_on(system, endian, bytes) {
+            Some(_) => None,
+            None => Some(ContextProblem::NotAccepted { size: bytes.len() }),
+        },
     }
 }

@@ -4,9 +4,8 @@ ghost use Rattle.minidump.specs.Promise.{exception_stream, mac_crash_info_stream
 ghost use Rattle.crash.specs.Cause.{exception_of};
 ghost use Rattle.crash.specs.Contents.{contents_of};
 ghost use Rattle.crash.specs.Damage.{context_damage, counted_damage, damage_by, exception_damage};
-ghost use Rattle.crash.specs.Damage.{exception_error, if_any, is_outside, parameters_damage};
-ghost use Rattle.crash.specs.Damage.{records_damage, records_lacking, stack_damage};
-ghost use Rattle.crash.specs.Damage.{stream_damage, texts_damage};
+ghost use Rattle.crash.specs.Damage.{exception_error, if_any, parameters_damage, records_lacking};
+ghost use Rattle.crash.specs.Damage.{stack_damage, stream_damage, texts_damage};
 ghost use Rattle.crash.specs.Directory.{directory_of};
 ghost use Rattle.crash.specs.ProcessTexts.{comments_of};
 ghost use Rattle.crash.specs.Threads.{thread_value};
@@ -45,8 +44,8 @@ pub enum Damage {
         /// How many there are.
         count: u64,
     },
-    /// Regions of the plain list of memory (MemoryListStream) whose bytes are not all in the file. The
-    /// memory has none of them.
+    /// Regions of the plain list of memory (MemoryListStream), of an RVA other than 0, whose bytes are
+    /// not all in the file. The memory has none of them.
     Regions {
         /// How many there are.
         count: u64,
@@ -57,12 +56,13 @@ pub enum Damage {
         /// How many there are.
         count: u64,
     },
-    /// Texts of a stream: none is where an entry names one by an RVA other than 0, or a surrogate of its
-    /// UTF-16 lacks its partner. They are the text of the service pack (SystemInfoStream), the comment
-    /// of CommentStreamW, the names of handles, of their types and of threads, the texts of an
-    /// assertion, and the arguments of macOS's boot. Such a text is absent; a thread may have an earlier
-    /// name. A comment of CommentStreamW counts, too, if its last byte is half a code unit, with no 0 before
-    /// it: the text up to that byte is there.
+    /// Texts of a stream that can't be read: an entry names a text by an RVA other than 0 and there is
+    /// none, or a surrogate of its UTF-16 lacks its partner. They are the text of the service pack
+    /// (SystemInfoStream), the comment of CommentStreamW, the names of handles, of their types and of
+    /// threads, the texts of an assertion, and the arguments of macOS's boot. Such a text is absent; a
+    /// thread may have an earlier name. A comment of CommentStreamW also counts, once in all, if its last
+    /// byte is half a code unit and no code unit before it is 0; the text before that byte is then there,
+    /// unless a surrogate lacks its partner.
     Texts {
         /// The number of the stream's type.
         number: u32,
@@ -83,8 +83,9 @@ pub enum Damage {
         /// Why it can't be read.
         error: Error,
     },
-    /// Parameters that the record of an exception counts and has no room for: those beyond the 15. Each
-    /// exception that can be read counts, also one that tells of no crash.
+    /// The parameters of an exception beyond the 15 that its record has room for, where
+    /// `number_parameters` is greater. Told of each exception that can be read, also of one that tells of
+    /// no crash.
     Parameters {
         /// The id of the thread on which the exception happened.
         thread: u32,
@@ -177,6 +178,7 @@ pub(crate) fn counted_damage(
     let threads = threads_lacking(&contents.threads.names);
     let assertion = assertion_lacking(alloc, &contents.messages.assertion)?;
     let records = records_lacking(&contents.messages.mac_crash_info);
+    let records_number = MinidumpMacCrashInfo::number_of_type();
     let boot_args = boot_args_lacking(&contents.messages.mac_boot_args);
     Ok([
         if_any(entries, Damage::Entries { count: entries }),
@@ -187,7 +189,13 @@ pub(crate) fn counted_damage(
         texts_damage(MinidumpHandleDataStream::number_of_type(), handles),
         texts_damage(MinidumpThreadNames::number_of_type(), threads),
         texts_damage(MinidumpAssertion::number_of_type(), assertion),
-        records_damage(MinidumpMacCrashInfo::number_of_type(), records),
+        if_any(
+            records,
+            Damage::Records {
+                number: records_number,
+                count: records,
+            },
+        ),
         texts_damage(MinidumpMacBootargs::number_of_type(), boot_args),
     ])
 }
@@ -196,7 +204,7 @@ pub(crate) fn counted_damage(
 fn if_any(count: u64, damage: Damage) -> Option<Damage>
     ensures { result ≡ if_any count damage }
 {
-    if count == 0 { None } else { Some(damage) }
+    (count != 0).then_some(damage)
 }
 
 // Returns the texts of a stream that can't be read, if there are any.
@@ -206,21 +214,11 @@ fn texts_damage(number: u32, count: u64) -> Option<Damage>
     if_any(count, Damage::Texts { number, count })
 }
 
-// Returns the records of a stream that can't be read, if there are any.
-fn records_damage(number: u32, count: u64) -> Option<Damage>
-    ensures { result ≡ records_damage number count }
-{
-    if_any(count, Damage::Records { number, count })
-}
-
 // Returns how many records of macOS's crash information can't be read.
 fn records_lacking(found: &Result<MinidumpMacCrashInfo, Error>) -> u64
     ensures { result ≡ records_lacking (map_ok mac_crash_info_stream.value found.now) }
 {
-    match found {
-        Ok(found) => found.unreadable_records(),
-        Err(_) => 0,
-    }
+    found.as_ref().map_or(0, |found| found.unreadable_records())
 }
 
 // Returns an exception that can't be read.
@@ -252,9 +250,10 @@ fn exception_damage(exception: &Result<CrashException, Error>) -> Option<Damage>
     ensures { result ≡ exception_damage (map_ok exception_of exception.now) }
 {
     match exception {
-        Ok(exception) if is_outside(exception.context_problem) => Some(Damage::ExceptionContext {
-            thread: exception.thread,
-        }),
+        Ok(exception) if exception.context_problem == Some(ContextProblem::Outside) => {
+            let thread = exception.thread;
+            Some(Damage::ExceptionContext { thread })
+        }
         _ => None,
     }
 }
@@ -263,10 +262,9 @@ fn exception_damage(exception: &Result<CrashException, Error>) -> Option<Damage>
 fn context_damage(thread: &CrashThread) -> Option<Damage>
     ensures { result ≡ context_damage (thread_value thread.now) }
 {
-    if is_outside(thread.context_problem) {
-        Some(Damage::ThreadContext { thread: thread.id })
-    } else {
-        None
+    match thread.context_problem {
+        Some(ContextProblem::Outside) => Some(Damage::ThreadContext { thread: thread.id }),
+        _ => None,
     }
 }
 
@@ -274,19 +272,6 @@ fn context_damage(thread: &CrashThread) -> Option<Damage>
 fn stack_damage(thread: &CrashThread) -> Option<Damage>
     ensures { result ≡ stack_damage (thread_value thread.now) }
 {
-    if thread.is_stack_outside {
-        Some(Damage::Stack { thread: thread.id })
-    } else {
-        None
-    }
-}
-
-// Tells whether a context is outside the file.
-fn is_outside(problem: Option<ContextProblem>) -> bool
-    ensures { result ≡ is_outside problem }
-{
-    match problem {
-        Some(ContextProblem::Outside) => true,
-        Some(ContextProblem::NoSystem | ContextProblem::NotAccepted { .. }) | None => false,
-    }
+    let damage = Damage::Stack { thread: thread.id };
+    thread.is_stack_outside.then_some(damage)
 }

@@ -4,9 +4,8 @@ ghost use Rattle.minidump.specs.Dump.{dump_in};
 ghost use Rattle.minidump.specs.DumpValue.{dump_of};
 ghost use Rattle.minidump.specs.Promise.{exception_stream};
 ghost use Rattle.crash.specs.Contents.{contents_of};
-ghost use Rattle.crash.specs.Directory.{all_entries, directory_in, directory_of, entries_in};
-ghost use Rattle.crash.specs.Directory.{entry_in, error_of_number, error_of_type, last_error};
-ghost use Rattle.crash.specs.Directory.{is_lost, outside_in, raw_error};
+ghost use Rattle.crash.specs.Directory.{all_entries, directory_in, directory_of, error_of_number};
+ghost use Rattle.crash.specs.Directory.{is_lost, last_error, outside_in, raw_error};
 
 use crate::contents::Contents;
 use crate::space::error_of;
@@ -23,8 +22,8 @@ pub struct CrashDirectory {
     pub written: u32,
     /// The streams, ascending by type.
     pub entries: Vec<StreamEntry>,
-    /// How many entries of the directory have bytes that are not all in the file, of types whose
-    /// stream, which another entry decides, has its bytes. Exceptions don't count: each is read.
+    /// How many entries of the directory have bytes that are not all in the file, where the entry
+    /// that decides their type has its bytes there. Exceptions don't count: each is read.
     pub entries_outside: u64,
 }
 
@@ -53,39 +52,20 @@ pub(crate) fn directory_of(
     ensures { IfOk result (λ directory. directory_of directory
         ≡ directory_in (dump_of dump.now) (contents_of contents.now)) }
 {
-    Ok(CrashDirectory {
-        written: dump.header.time_date_stamp,
-        entries: entries_of(alloc, dump, contents)?,
-        entries_outside: outside_of(dump, file),
-    })
-}
-
-// Returns the streams of a dump, ascending by type.
-fn entries_of(
-    alloc: Global,
-    dump: &Minidump<'_>,
-    contents: &Contents<'_>,
-) -> Result<Vec<StreamEntry>, AllocError>
-    ensures { IfOk result (λ entries. entries.items
-        ≡ entries_in (dump_of dump.now) (contents_of contents.now)) }
-{
     let mut entries = Vec::new(alloc);
     for entry in dump.all_streams() {
-        entries.push(entry_of(dump, contents, entry))?;
+        entries.push(StreamEntry {
+            number: entry.stream_type,
+            size: entry.location.data_size,
+            rva: entry.location.rva,
+            error: error_of_number(dump, contents, entry.stream_type),
+        })?;
     }
-    Ok(entries)
-}
-
-// Returns the stream of an entry.
-fn entry_of(dump: &Minidump<'_>, contents: &Contents<'_>, entry: &MINIDUMP_DIRECTORY) -> StreamEntry
-    ensures { result ≡ entry_in (dump_of dump.now) (contents_of contents.now) entry.now }
-{
-    StreamEntry {
-        number: entry.stream_type,
-        size: entry.location.data_size,
-        rva: entry.location.rva,
-        error: error_of_number(dump, contents, entry.stream_type),
-    }
+    Ok(CrashDirectory {
+        written: dump.header.time_date_stamp,
+        entries,
+        entries_outside: outside_of(dump, file),
+    })
 }
 
 // Returns the error for which the stream of a type can't be read. Of a type that is never read that
@@ -93,27 +73,17 @@ fn entry_of(dump: &Minidump<'_>, contents: &Contents<'_>, entry: &MINIDUMP_DIREC
 fn error_of_number(dump: &Minidump<'_>, contents: &Contents<'_>, number: u32) -> Option<Error>
     ensures { result ≡ error_of_number (dump_of dump.now) (contents_of contents.now) number }
 {
-    match MINIDUMP_STREAM_TYPE::from_u32(number) {
-        Some(known_type) => error_of_type(dump, contents, number, known_type),
-        None => raw_error(dump, number),
-    }
-}
-
-// Returns the same by the number of a type that has a name, and the named type.
-fn error_of_type(
-    dump: &Minidump<'_>,
-    contents: &Contents<'_>,
-    number: u32,
-    known_type: MINIDUMP_STREAM_TYPE,
-) -> Option<Error>
-    ensures { result ≡ error_of_type (dump_of dump.now) (contents_of contents.now) number
-        known_type }
-{
-    let system = &contents.system;
-    let threads = &contents.threads;
-    let space = &contents.space;
-    let messages = &contents.messages;
-    let process = &contents.process;
+    let Some(known_type) = MINIDUMP_STREAM_TYPE::from_u32(number) else {
+        return raw_error(dump, number);
+    };
+    let Contents {
+        system,
+        threads,
+        space,
+        messages,
+        process,
+        ..
+    } = contents;
     match known_type {
         MINIDUMP_STREAM_TYPE::SystemInfoStream => error_of(&system.system),
         MINIDUMP_STREAM_TYPE::MiscInfoStream => error_of(&system.misc),

@@ -1,24 +1,20 @@
 ghost use Rattle.std.specs.Prelude.{◌≡◌, IfOk, IsOkUnless, map};
 ghost use Rattle.std.specs.Option.{option_copied, option_map};
 ghost use Rattle.minidump.specs.Below.MemoryLists.Unified.{unified_list, unified_region};
-ghost use Rattle.minidump.specs.Below.Modules.ModuleList.{module_list_of};
 ghost use Rattle.minidump.specs.Promise.{exception_stream};
 ghost use Rattle.minidump.specs.Thread.{thread_of};
 ghost use Rattle.stack_walk.specs.Frames.{stack_of};
 ghost use Rattle.stack_walk.specs.Threads.{process_of};
-ghost use Rattle.stack_walk.specs.Walk.{walk_of};
 ghost use Rattle.crash.specs.Contents.{contents_of};
 ghost use Rattle.crash.specs.Frames.{context_of, crash_walk_of, exception_walked, frame_in, memory_at};
-ghost use Rattle.crash.specs.Frames.{place_of, process_in, thread_walked, walk_by, walk_from};
-ghost use Rattle.crash.specs.Frames.{walked_of};
+ghost use Rattle.crash.specs.Frames.{process_in, thread_walked, walk_from, walked_of};
 
 use crate::contents::Contents;
 use crate::contexts::{FoundContext, context_at, found_context};
 use minidump::{
-    Error, MinidumpContext, MinidumpException, MinidumpModuleList, MinidumpThread, UnifiedMemory,
-    UnifiedMemoryList,
+    Error, MinidumpContext, MinidumpException, MinidumpThread, UnifiedMemory, UnifiedMemoryList,
 };
-use stack_walk::{FrameTrust, Process, Stack, StackFrame, Walk, WalkEnd, module_place, walk_stack};
+use stack_walk::{FrameTrust, Process, Stack, StackFrame, WalkEnd, module_place, walk_stack};
 use std::alloc::{AllocError, Global};
 
 /// What is found in the stack of a thread.
@@ -109,7 +105,7 @@ pub(crate) fn walk_of(
     }
 }
 
-// Returns what is found in a stack by a context.
+// Returns what is found in a stack by a context, each frame with its module.
 fn walk_from(
     alloc: Global,
     stack: &Stack<'_, '_>,
@@ -121,7 +117,11 @@ fn walk_from(
     ensures memory { IsOkUnless result Error.OutOfMemory }
 {
     let walk = walk_stack(alloc, stack, context, scan)?;
-    Ok(walk_by(alloc, stack, &walk)?)
+    Ok(CrashWalk {
+        frames: frames_in(alloc, stack, walk.frames.as_slice())?,
+        candidates: frames_in(alloc, stack, walk.candidates.as_slice())?,
+        end: walk.end,
+    })
 }
 
 // Returns the kept region of the memory that contains an address.
@@ -132,18 +132,6 @@ pub(crate) fn memory_at<'l, 'a>(
     ensures { option_map unified_region result ≡ memory_at (unified_list memory.now) address }
 {
     memory.memory_at_address(address)
-}
-
-// Returns a walk with the module of each frame.
-fn walk_by(alloc: Global, stack: &Stack<'_, '_>, walk: &Walk) -> Result<CrashWalk, AllocError>
-    ensures { IfOk result
-        (λ w. crash_walk_of w ≡ walk_by (stack_of stack.now) (walk_of walk.now)) }
-{
-    Ok(CrashWalk {
-        frames: frames_in(alloc, stack, walk.frames.as_slice())?,
-        candidates: frames_in(alloc, stack, walk.candidates.as_slice())?,
-        end: walk.end,
-    })
 }
 
 // Returns frames, each with its module.
@@ -171,16 +159,8 @@ pub fn frame_in(stack: &Stack<'_, '_>, frame: &StackFrame) -> CrashFrame
         stack_pointer: frame.stack_pointer,
         frame_pointer: frame.frame_pointer,
         trust: frame.trust,
-        module: place_of(stack.modules, address),
+        module: address.and_then(|address| module_place(stack.modules, address)),
     }
-}
-
-// Returns the index of the kept module that contains an address, if there is one, and the offset in
-// that.
-fn place_of(modules: &MinidumpModuleList, address: Option<u64>) -> Option<(usize, u64)>
-    ensures { result ≡ place_of (module_list_of modules.now) address }
-{
-    module_place(modules, address?)
 }
 
 // Returns the process with such an exception, or `None` without system information.
@@ -192,17 +172,12 @@ fn process_of<'l, 'a>(
         (option_map exception_stream.value (option_copied exception.entry)) }
 {
     let space = &contents.space;
-    let system = contents.system.system.as_ref().ok()?;
-    let modules = &space.modules;
-    let memory = &space.memory;
-    let infos = &space.infos;
-    let code_bits = contents.code_bits;
     Some(Process {
-        system,
+        system: contents.system.system.as_ref().ok()?,
         exception,
-        modules,
-        memory,
-        infos,
-        code_bits,
+        modules: &space.modules,
+        memory: &space.memory,
+        infos: &space.infos,
+        code_bits: contents.code_bits,
     })
 }

@@ -1,14 +1,13 @@
 //! What Linux says of a process in lists: the variables of its environment, and its limits.
-ghost use Rattle.std.specs.Prelude.{◌≡◌, ◌++◌, [], ◌∷◌, IfOk, OnOk, map, string_bytes};
+ghost use Rattle.std.specs.Prelude.{◌≡◌, ◌++◌, [], IfOk, OnOk, map, string_bytes};
 ghost use Rattle.std.specs.Char.{is_ascii_digit};
-ghost use Rattle.std.specs.List.{cons_option, flat_map, list_all, position};
+ghost use Rattle.std.specs.List.{cons_option, list_all, position};
 ghost use Rattle.std.specs.Option.{option_map};
-ghost use Rattle.std.specs.Str.Lossy.{utf8_lossy};
 ghost use Rattle.minidump.specs.Below.Bytes.LinuxOsStr.{parts_of, text_of, words_of};
 ghost use Rattle.minidump.specs.Below.Records.Pairs.{pairs_of};
 ghost use Rattle.minidump.specs.Promise.{linux_environ_stream, linux_proc_limits_stream};
-ghost use Rattle.crash.specs.Linux.{is_limit, joined_words, limit_by, limit_from, limit_in, limit_of};
-ghost use Rattle.crash.specs.Linux.{limits_in, unit_in, words_limit};
+ghost use Rattle.crash.specs.Linux.{is_limit, joined_words, limit_from, limit_in, limit_of, limits_in};
+ghost use Rattle.crash.specs.Linux.{unit_in, words_limit};
 
 use minidump::strings::LinuxOsStr;
 use minidump::{MinidumpLinuxEnviron, MinidumpLinuxProcLimits};
@@ -104,21 +103,18 @@ fn limit_from(
         ≡ limit_from (map text_of name.now) (map text_of limits.now)) }
 {
     match limits {
-        [soft, hard, rest @ ..] if is_limit(*hard) => {
-            Ok(Some(limit_by(alloc, name, *soft, *hard, rest)?))
-        }
+        [soft, hard, rest @ ..] if is_limit(*hard) => Ok(Some(ProcessLimit {
+            name: joined_words(alloc, name)?,
+            soft: soft.to_string_lossy(alloc)?,
+            hard: hard.to_string_lossy(alloc)?,
+            unit: unit_in(alloc, rest)?,
+        })),
         _ => Ok(None),
     }
 }
 
 // Returns the index of the first word that is a limit.
 fn first_limit(words: &[LinuxOsStr<'_>]) -> Option<usize>
-    ensures { result ≡ position is_limit (map text_of words.now) }
-{
-    index_of(words)
-}
-
-fn index_of(words: &[LinuxOsStr<'_>]) -> Option<usize>
     ensures { result ≡ position (λ word. is_limit (text_of word)) words.now }
 {
     words.iter().position(|word| is_limit(*word))
@@ -138,60 +134,19 @@ fn is_number(bytes: &[u8]) -> bool
     bytes.iter().all(|byte| byte.is_ascii_digit())
 }
 
-// Makes a limit of the words of its name, of the two limits, and of the words after these.
-fn limit_by(
-    alloc: Global,
-    name: &[LinuxOsStr<'_>],
-    soft: LinuxOsStr<'_>,
-    hard: LinuxOsStr<'_>,
-    rest: &[LinuxOsStr<'_>],
-) -> Result<ProcessLimit, AllocError>
-    ensures { IfOk result (λ limit. limit_of limit
-        ≡ limit_by (map text_of name.now) (text_of soft.entry) (text_of hard.entry)
-        (map text_of rest.now)) }
-{
-    Ok(ProcessLimit {
-        name: joined_words(alloc, name)?,
-        soft: soft.to_string_lossy(alloc)?,
-        hard: hard.to_string_lossy(alloc)?,
-        unit: unit_in(alloc, rest)?,
-    })
-}
-
 // Joins words, with a space between two.
 fn joined_words(alloc: Global, words: &[LinuxOsStr<'_>]) -> Result<String, AllocError>
     ensures { IfOk result (λ text. string_bytes text ≡ joined_words (map text_of words.now)) }
 {
-    match words {
-        [first, rest @ ..] => words_after(alloc, *first, rest),
-        [] => Ok(String::new(alloc)),
-    }
-}
-
-// Makes a text of a first word and the others.
-fn words_after(
-    alloc: Global,
-    first: LinuxOsStr<'_>,
-    others: &[LinuxOsStr<'_>],
-) -> Result<String, AllocError>
-    ensures { IfOk result (λ text. string_bytes text ≡ utf8_lossy (text_of first.entry)
-        ++ flat_map (λ word. 0x20 ∷ utf8_lossy word) (map text_of others.now)) }
-{
+    let [first, others @ ..] = words else {
+        return Ok(String::new(alloc));
+    };
     let mut text = first.to_string_lossy(alloc)?;
     for other in others {
-        push_word(&mut text, *other)?;
+        text.push(' ')?;
+        text.push_str(other.to_string_lossy(alloc)?.as_str())?;
     }
     Ok(text)
-}
-
-// Appends a space and a word.
-fn push_word(text: &mut String, word: LinuxOsStr<'_>) -> Result<(), AllocError>
-    ensures { OnOk result (string_bytes text.new
-        ≡ string_bytes text.old ++ (0x20 ∷ utf8_lossy (text_of word.entry))) }
-{
-    let word = word.to_string_lossy(*text.allocator())?;
-    text.push(' ')?;
-    text.push_str(word.as_str())
 }
 
 // Copies the first word, if there is one.

@@ -8,8 +8,5 @@ use minidump::Error;
 pub fn is_missing(error: Error) -> bool
     ensures { result ≡ is_missing error }
 {
-    match error {
-        Error::StreamNotFound => true,
-        _ => false,
-    }
+    error == Error::StreamNotFound
 }

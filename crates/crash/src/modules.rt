@@ -1,12 +1,10 @@
 ghost use Rattle.std.specs.Prelude.{◌≡◌, IfOk, IsOkUnless, Ok, map, string_bytes};
 ghost use Rattle.std.specs.Option.{option_map};
 ghost use Rattle.minidump.specs.Below.Contexts.Context.{map_ok};
-ghost use Rattle.minidump.specs.Below.Modules.CodeId.{text_of};
 ghost use Rattle.minidump.specs.Below.Modules.DebugId.{breakpad_text};
 ghost use Rattle.minidump.specs.Dump.{dump_in};
 ghost use Rattle.minidump.specs.DumpValue.{dump_of};
 ghost use Rattle.minidump.specs.Promise.{unloaded_module_list_stream};
-ghost use Rattle.crash.specs.FileName.{file_name};
 ghost use Rattle.crash.specs.Contents.{contents_of};
 ghost use Rattle.crash.specs.Modules.{by_address, loaded_in, loaded_of, modules_in, modules_of};
 ghost use Rattle.crash.specs.Modules.{unloaded_in, unloaded_module_of};
@@ -14,11 +12,13 @@ ghost use Rattle.crash.specs.Modules.{unloaded_in, unloaded_module_of};
 use crate::contents::Contents;
 use crate::each::{MakeItem, make_items};
 use crate::file_names::file_name;
+use crate::process::copy;
 use crate::unreadable_modules::{UnreadableModule, unreadable_of};
 use minidump::{
-    CodeId, DebugId, Error, Minidump, MinidumpModule, MinidumpUnloadedModule,
-    MinidumpUnloadedModuleList, Module,
+    DebugId, Error, Minidump, MinidumpModule, MinidumpUnloadedModule, MinidumpUnloadedModuleList,
+    Module,
 };
+use minidump_bytes::as_text;
 use std::alloc::{AllocError, Global};
 use std::collections::BTreeSet;
 
@@ -106,6 +106,21 @@ fn loaded_of(alloc: Global, contents: &Contents<'_>) -> Result<Vec<CrashModule>,
     make_items(alloc, &EachModule, contents.space.modules.as_slice())
 }
 
+// Returns the modules that were unloaded.
+fn unloaded_of(
+    alloc: Global,
+    list: &Result<MinidumpUnloadedModuleList, Error>,
+) -> Result<Vec<UnloadedModule>, Error>
+    ensures modules { IfOk result (λ modules. map unloaded_module_of modules.items
+        ≡ unloaded_in (map_ok unloaded_module_list_stream.value list.now)) }
+    ensures memory { IsOkUnless result Error.OutOfMemory }
+{
+    match list {
+        Ok(list) => make_items(alloc, &EachUnloadedModule, list.iter().as_slice()),
+        Err(_) => Ok(Vec::new(alloc)),
+    }
+}
+
 // Returns the indices of modules in the order of their base addresses.
 fn by_address(alloc: Global, modules: &[CrashModule]) -> Result<Vec<usize>, AllocError>
     ensures { IfOk result (λ indices. indices.items ≡ by_address (map loaded_of modules.now)) }
@@ -133,21 +148,6 @@ fn indices_of(alloc: Global, bases: &BTreeSet<(u64, usize)>) -> Result<Vec<usize
     bases.iter().map(|pair| pair.1).collect(alloc)
 }
 
-// Returns the modules that were unloaded.
-fn unloaded_of(
-    alloc: Global,
-    list: &Result<MinidumpUnloadedModuleList, Error>,
-) -> Result<Vec<UnloadedModule>, Error>
-    ensures modules { IfOk result (λ modules. map unloaded_module_of modules.items
-        ≡ unloaded_in (map_ok unloaded_module_list_stream.value list.now)) }
-    ensures memory { IsOkUnless result Error.OutOfMemory }
-{
-    match list {
-        Ok(list) => make_items(alloc, &EachUnloadedModule, list.iter().as_slice()),
-        Err(_) => Ok(Vec::new(alloc)),
-    }
-}
-
 // A module of the list.
 #[derive(Clone, Copy)]
 struct EachModule;
@@ -169,14 +169,16 @@ impl MakeItem<MinidumpModule> for EachModule {
     ghost made_of = { λ _ m. module_in m };
 
     fn make_item(&self, alloc: Global, item: &MinidumpModule) -> Result<CrashModule, Error> {
+        let code_id = item.code_identifier(alloc)?;
+        let debug_file = item.debug_file(alloc)?;
         Ok(CrashModule {
             base: item.base_address(),
             end: item.base_address().checked_add(item.size()),
             path: String::from_str(alloc, item.code_file())?,
             file: String::from_str(alloc, file_name(item.code_file()))?,
             version: item.version(alloc)?,
-            code_id: code_id_text(alloc, item.code_identifier(alloc)?)?,
-            debug_file: file_name_of(alloc, item.debug_file(alloc)?)?,
+            code_id: copy(alloc, code_id.as_ref().map(|id| id.as_str()))?,
+            debug_file: copy(alloc, as_text(&debug_file).map(|path| file_name(path)))?,
             debug_id: debug_id_text(alloc, item.debug_identifier())?,
         })
     }
@@ -207,34 +209,14 @@ impl MakeItem<MinidumpUnloadedModule> for EachUnloadedModule {
         alloc: Global,
         item: &MinidumpUnloadedModule,
     ) -> Result<UnloadedModule, Error> {
+        let code_id = item.code_identifier(alloc)?;
         Ok(UnloadedModule {
             base: item.base_address(),
             end: item.base_address().checked_add(item.size()),
             path: String::from_str(alloc, item.code_file())?,
             file: String::from_str(alloc, file_name(item.code_file()))?,
-            code_id: code_id_text(alloc, item.code_identifier(alloc)?)?,
+            code_id: copy(alloc, code_id.as_ref().map(|id| id.as_str()))?,
         })
-    }
-}
-
-// Copies the digits of an identifier that may be absent.
-fn code_id_text(alloc: Global, id: Option<CodeId>) -> Result<Option<String>, AllocError>
-    ensures { IfOk result (λ text. option_map string_bytes text ≡ option_map text_of id) }
-{
-    match id {
-        Some(id) => Ok(Some(String::from_str(alloc, id.as_str())?)),
-        None => Ok(None),
-    }
-}
-
-// Copies the last part of a path that may be absent.
-fn file_name_of(alloc: Global, path: Option<String>) -> Result<Option<String>, AllocError>
-    ensures { IfOk result (λ name. option_map string_bytes name
-        ≡ option_map (λ p. file_name (string_bytes p)) path) }
-{
-    match path {
-        Some(path) => Ok(Some(String::from_str(alloc, file_name(path.as_str()))?)),
-        None => Ok(None),
     }
 }
 

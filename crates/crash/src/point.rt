@@ -1,13 +1,11 @@
 //! Where a thread stands.
-ghost use Rattle.std.specs.Prelude.{◌≡◌, IfOk, map, take};
+ghost use Rattle.std.specs.Prelude.{◌≡◌, IfOk, map};
 ghost use Rattle.std.specs.Option.{option_map};
-ghost use Rattle.minidump.specs.Below.MemoryLists.Unified.{unified_list, unified_region};
-ghost use Rattle.minidump.specs.Below.Modules.ModuleList.{module_list_of};
-ghost use Rattle.stack_walk.specs.Frames.{instruction_pointer_in, stack_of, stack_pointer_in};
+ghost use Rattle.minidump.specs.Below.MemoryLists.Unified.{unified_list};
+ghost use Rattle.stack_walk.specs.Frames.{instruction_pointer_in, stack_of};
 ghost use Rattle.crash.specs.Contents.{contents_of};
-ghost use Rattle.crash.specs.Point.{code_at, code_of, flags_of, point_by, point_in, point_of};
-ghost use Rattle.crash.specs.Point.{facts_of_each, holds_address, register_facts, word_at};
-ghost use Rattle.crash.specs.Point.{word_by, word_in, words_from};
+ghost use Rattle.crash.specs.Point.{code_at, flags_of, point_by, point_in, point_of};
+ghost use Rattle.crash.specs.Point.{register_facts, word_at, words_from};
 
 use crate::addresses::{AddressFacts, facts_of};
 use crate::contents::Contents;
@@ -15,9 +13,7 @@ use crate::contexts::register_values;
 use crate::frames::memory_at;
 use crate::set_flags::set_flags_of;
 use crate::threads::walked_at;
-use minidump::{
-    MinidumpContext, MinidumpModuleList, MinidumpRawContext, UnifiedMemory, UnifiedMemoryList,
-};
+use minidump::{MinidumpContext, MinidumpRawContext, UnifiedMemoryList};
 use stack_walk::{Stack, is_address, module_place};
 use std::alloc::{AllocError, Global};
 
@@ -91,7 +87,7 @@ fn point_by<'a>(
         instruction: facts_of(contents, instruction),
         registers: register_facts(alloc, contents, context)?,
         code: code_at(&contents.space.memory, instruction),
-        words: words_from(alloc, stack, stack_pointer_of(context), 16)?,
+        words: words_from(alloc, stack, context.get_stack_pointer(), 16)?,
         flags: flags_of(alloc, &context.raw)?,
         set_flags: set_flags_of(alloc, &context.raw)?,
     })
@@ -104,16 +100,9 @@ pub(crate) fn instruction_pointer_of(context: &MinidumpContext) -> u64
     context.get_instruction_pointer()
 }
 
-// Returns the stack pointer of a context.
-fn stack_pointer_of(context: &MinidumpContext) -> u64
-    ensures { result ≡ stack_pointer_in context.now.raw }
-{
-    context.get_stack_pointer()
-}
-
 // ---- the registers
 
-// Returns what is known of the value of each register of a context, as an address.
+// Returns what is known of the value of each register of a context that may hold an address.
 fn register_facts(
     alloc: Global,
     contents: &Contents<'_>,
@@ -122,31 +111,11 @@ fn register_facts(
     ensures { IfOk result (λ registers. map (λ r. (r.0.now, r.1)) registers.items
         ≡ register_facts (contents_of contents.now) context.now.raw) }
 {
-    let values = register_values(alloc, context)?;
-    facts_of_each(alloc, contents, values.as_slice())
-}
-
-// Returns what is known of the values of the registers that may hold an address.
-fn facts_of_each(
-    alloc: Global,
-    contents: &Contents<'_>,
-    values: &[(&'static str, u64)],
-) -> Result<Vec<(&'static str, AddressFacts)>, AllocError>
-    ensures { IfOk result (λ registers. map (λ r. (r.0.now, r.1)) registers.items
-        ≡ facts_of_each (contents_of contents.now) (map (λ r. (r.0.now, r.1)) values.now)) }
-{
-    values
+    register_values(alloc, context)?
         .iter()
-        .filter(|register| holds_address(register.0))
+        .filter(|register| register.0 != "eflags")
         .map(|register| (register.0, facts_of(contents, register.1)))
         .collect(alloc)
-}
-
-// Tells whether the register of a name may hold an address.
-fn holds_address(name: &str) -> bool
-    ensures { result ≡ holds_address name.now }
-{
-    name != "eflags"
 }
 
 // ---- the code
@@ -155,25 +124,12 @@ fn holds_address(name: &str) -> bool
 fn code_at<'a>(memory: &UnifiedMemoryList<'a>, address: u64) -> &'a [u8]
     ensures { result.now ≡ code_at (unified_list memory.now) address }
 {
-    code_of(memory_at(memory, address), address)
-}
-
-// Returns the bytes of a region from an address on, at most 16.
-fn code_of<'a>(region: Option<UnifiedMemory<'_, 'a>>, address: u64) -> &'a [u8]
-    ensures { result.now ≡ code_of (option_map unified_region region.entry) address }
-{
-    let Some(region) = region else {
+    let Some(region) = memory_at(memory, address) else {
         return &[];
     };
     let from = address.saturating_sub(region.base_address()) as usize;
-    first_bytes(region.bytes().get(from..).unwrap_or(&[]))
-}
-
-// Returns the first 16 bytes, or all if there are fewer.
-fn first_bytes(bytes: &[u8]) -> &[u8]
-    ensures { result.now ≡ take 16 bytes.now }
-{
-    &bytes[..bytes.len().min(16)]
+    let code = region.bytes().get(from..).unwrap_or(&[]);
+    &code[..code.len().min(16)]
 }
 
 // ---- the words
@@ -192,69 +148,43 @@ fn words_from(
         .collect(alloc)
 }
 
-// Returns the word of a number from an address up.
+// Returns the word of a number from an address up, if the stack has it.
 #[tactic(auto, using(crate::proofs::PointLemmas::no_word), unfolding(crate::specs::Point::word_at))]
 fn word_at(stack: &Stack<'_, '_>, from: u64, index: usize) -> Option<StackWord>
     ensures { result ≡ word_at (stack_of stack.now) from index }
 {
     let size = stack.width.size_in_bytes()? as u64;
-    word_in(stack, from.checked_add((index as u64).checked_mul(size)?)?)
-}
-
-// Returns the word that a stack holds at a number, if that is an address.
-fn word_in(stack: &Stack<'_, '_>, address: u64) -> Option<StackWord>
-    ensures { result ≡ word_in (stack_of stack.now) address }
-{
+    let address = from.checked_add((index as u64).checked_mul(size)?)?;
     if !is_address(stack.width, address) {
         return None;
     }
     let value = stack.word_at(address)?;
-    Some(word_by(stack.modules, address, value))
-}
-
-// Returns a word with its module.
-fn word_by(modules: &MinidumpModuleList, address: u64, value: u64) -> StackWord
-    ensures { result ≡ word_by (module_list_of modules.now) address value }
-{
-    StackWord {
+    let module = module_place(stack.modules, value);
+    Some(StackWord {
         address,
         value,
-        module: module_place(modules, value),
-    }
+        module,
+    })
 }
 
 // ---- the flags
 
 // Returns the flags and the segments of a context.
+#[rattlefmt::skip]
 fn flags_of(alloc: Global, raw: &MinidumpRawContext) -> Result<Vec<(&'static str, u64)>, AllocError>
     ensures { IfOk result (λ flags. map (λ r. (r.0.now, r.1)) flags.items ≡ flags_of raw.now) }
 {
-    let mut flags = Vec::new(alloc);
     match raw {
-        MinidumpRawContext::X86(context) => {
-            flags.extend_from_slice(&[
-                ("cs", context.cs as u64),
-                ("ss", context.ss as u64),
-                ("ds", context.ds as u64),
-                ("es", context.es as u64),
-                ("fs", context.fs as u64),
-                ("gs", context.gs as u64),
-            ])?;
-        }
-        MinidumpRawContext::Amd64(context) => {
-            flags.extend_from_slice(&[
-                ("eflags", context.eflags as u64),
-                ("cs", context.cs as u64),
-                ("ss", context.ss as u64),
-                ("ds", context.ds as u64),
-                ("es", context.es as u64),
-                ("fs", context.fs as u64),
-                ("gs", context.gs as u64),
-            ])?;
-        }
-        MinidumpRawContext::Arm(context) => flags.push(("cpsr", context.cpsr as u64))?,
-        MinidumpRawContext::Arm64(context) => flags.push(("cpsr", context.cpsr as u64))?,
-        MinidumpRawContext::OldArm64(context) => flags.push(("cpsr", context.cpsr as u64))?,
+        MinidumpRawContext::X86(c) => Ok(vec![in alloc;
+            ("cs", c.cs as u64), ("ss", c.ss as u64), ("ds", c.ds as u64),
+            ("es", c.es as u64), ("fs", c.fs as u64), ("gs", c.gs as u64),
+        ]?),
+        MinidumpRawContext::Amd64(c) => Ok(vec![in alloc;
+            ("eflags", c.eflags as u64), ("cs", c.cs as u64), ("ss", c.ss as u64), ("ds", c.ds as u64),
+            ("es", c.es as u64), ("fs", c.fs as u64), ("gs", c.gs as u64),
+        ]?),
+        MinidumpRawContext::Arm(c) => Ok(vec![in alloc; ("cpsr", c.cpsr as u64)]?),
+        MinidumpRawContext::Arm64(c) => Ok(vec![in alloc; ("cpsr", c.cpsr as u64)]?),
+        MinidumpRawContext::OldArm64(c) => Ok(vec![in alloc; ("cpsr", c.cpsr as u64)]?),
     }
-    Ok(flags)
 }

@@ -5,8 +5,8 @@ ghost use Rattle.minidump.specs.DumpValue.{dump_of};
 ghost use Rattle.minidump.specs.Promise.{linux_cpu_info_stream, linux_proc_status_stream};
 ghost use Rattle.minidump.specs.Promise.{misc_info_stream, system_info_stream};
 ghost use Rattle.crash.specs.Contents.{contents_of};
-ghost use Rattle.crash.specs.Process.{cpu_model, id_in, misc_id, process_in, process_of, system_by};
-ghost use Rattle.crash.specs.Process.{system_in, system_of, uptime, uptime_in};
+ghost use Rattle.crash.specs.Process.{cpu_model, id_in, process_in, process_of, system_in, system_of};
+ghost use Rattle.crash.specs.Process.{uptime_in};
 
 use crate::contents::Contents;
 use crate::handle_kinds::{HandleKind, kinds_of};
@@ -93,7 +93,7 @@ pub(crate) fn process_of(
     })
 }
 
-// Returns the system.
+// Returns the system, by its information and by Linux's description of the processors.
 fn system_of(
     alloc: Global,
     system: &Result<MinidumpSystemInfo, Error>,
@@ -104,25 +104,11 @@ fn system_of(
         (map_ok linux_cpu_info_stream.value cpu.now)) }
     ensures memory { IsOkUnless result Error.OutOfMemory }
 {
-    match system {
-        Ok(system) => Ok(Some(system_by(alloc, system, cpu)?)),
-        Err(_) => Ok(None),
-    }
-}
-
-// Returns a system by its information, and by Linux's description of the processors.
-fn system_by(
-    alloc: Global,
-    system: &MinidumpSystemInfo,
-    cpu: &Result<MinidumpLinuxCpuInfo<'_>, Error>,
-) -> Result<CrashSystem, Error>
-    ensures system { IfOk result
-        (λ s. system_of s ≡ system_by (map_ok linux_cpu_info_stream.value cpu.now)
-        (system_info_stream.value system.now)) }
-    ensures memory { IsOkUnless result Error.OutOfMemory }
-{
+    let Ok(system) = system else {
+        return Ok(None);
+    };
     let (version, build) = system.os_parts(alloc)?;
-    Ok(CrashSystem {
+    Ok(Some(CrashSystem {
         os: system.os,
         cpu: system.cpu,
         processors: system.raw.number_of_processors,
@@ -130,7 +116,7 @@ fn system_by(
         build,
         cpu_model: cpu_model_of(alloc, system, cpu)?,
         microcode: cpu_text(alloc, cpu, b"microcode")?,
-    })
+    }))
 }
 
 // Copies the description of the processor.
@@ -159,7 +145,7 @@ pub(crate) fn copy(alloc: Global, text: Option<&str>) -> Result<Option<String>, 
     }
 }
 
-// Returns the id of the process.
+// Returns the id of the process, by the misc information, else by Linux's status.
 fn id_of(
     misc: &Result<MinidumpMiscInfo, Error>,
     status: &Result<MinidumpLinuxProcStatus<'_>, Error>,
@@ -167,36 +153,19 @@ fn id_of(
     ensures { result ≡ id_in (map_ok misc_info_stream.value misc.now)
         (map_ok linux_proc_status_stream.value status.now) }
 {
-    misc_id(misc).or(status_number(status, b"Pid"))
-}
-
-// Returns the id of the process by the misc information.
-fn misc_id(misc: &Result<MinidumpMiscInfo, Error>) -> Option<u32>
-    ensures { result ≡ misc_id (map_ok misc_info_stream.value misc.now) }
-{
-    match misc {
+    let by_misc = match misc {
         Ok(misc) => misc.raw.process_id().copied(),
         Err(_) => None,
-    }
+    };
+    by_misc.or(status_number(status, b"Pid"))
 }
 
 // Returns for how many seconds the process had run.
 fn uptime_of(stamp: u32, misc: &Result<MinidumpMiscInfo, Error>) -> Option<u64>
     ensures { result ≡ uptime_in stamp (map_ok misc_info_stream.value misc.now) }
 {
-    match misc {
-        Ok(misc) => uptime(stamp, misc.process_create_time()),
-        Err(_) => None,
+    match misc.as_ref().ok()?.process_create_time()? {
+        0 => None,
+        begun => (stamp as u64).checked_sub(begun),
     }
-}
-
-// Returns for how many seconds a process had run that began at a time.
-fn uptime(stamp: u32, begun: Option<u64>) -> Option<u64>
-    ensures { result ≡ uptime stamp begun }
-{
-    let begun = begun?;
-    if begun == 0 {
-        return None;
-    }
-    (stamp as u64).checked_sub(begun)
 }

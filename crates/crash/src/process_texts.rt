@@ -8,10 +8,8 @@ ghost use Rattle.minidump.specs.Below.Bytes.Text16.{units_at};
 ghost use Rattle.minidump.specs.Below.Contexts.Context.{map_ok};
 ghost use Rattle.minidump.specs.DumpValue.{dump_of};
 ghost use Rattle.minidump.specs.Promise.{linux_cpu_info_stream, linux_proc_status_stream};
-ghost use Rattle.crash.specs.ProcessTexts.{bytes_of_kb, command_line_in, command_text, comment_text};
-ghost use Rattle.crash.specs.ProcessTexts.{comments_in, comments_of, cpu_text, is_cut, is_damaged};
-ghost use Rattle.crash.specs.ProcessTexts.{size_of_text, spaced, status_number, status_size};
-ghost use Rattle.crash.specs.ProcessTexts.{value_in, value_of, wide_text};
+ghost use Rattle.crash.specs.ProcessTexts.{command_line_in, command_text, comments_in, comments_of, cpu_text};
+ghost use Rattle.crash.specs.ProcessTexts.{spaced, status_number, status_size, value_in, value_of};
 
 use minidump::format::MINIDUMP_STREAM_TYPE;
 use minidump::own_streams::text_before_nul;
@@ -29,11 +27,12 @@ pub struct Comments {
     /// The text of the stream CommentStreamA before its first 0, with U+FFFD for what isn't UTF-8;
     /// `None` if its bytes can't be read.
     pub narrow: Option<String>,
-    /// The text of the stream CommentStreamW before its first 0, or up to a last byte that is half a
-    /// code unit; `None` if its bytes can't be read, or a surrogate lacks its partner.
+    /// The text of CommentStreamW: its code units before the first that is 0, or all of them; a last
+    /// byte that is half a code unit is left out. `None` if its bytes can't be read, or a surrogate
+    /// lacks its partner.
     pub wide: Option<String>,
     /// Whether the bytes of CommentStreamW can be read, but not all of its text: a surrogate lacks its
-    /// partner, or the last byte is half a code unit, with no 0 before it.
+    /// partner, or the last byte is half a code unit and no code unit before it is 0.
     pub is_wide_damaged: bool,
 }
 
@@ -56,22 +55,8 @@ pub(crate) fn status_size(
 ) -> Option<u64>
     ensures { result ≡ status_size key.now (map_ok linux_proc_status_stream.value status.now) }
 {
-    size_of_text(status_value(status, key)?)
-}
-
-// Returns the number of bytes of a size that a text writes in kB.
-fn size_of_text(text: LinuxOsStr<'_>) -> Option<u64>
-    ensures { result ≡ size_of_text (text_of text.entry) }
-{
-    let digits = text.strip_suffix(b" kB")?;
-    bytes_of_kb(number_64(digits.as_bytes(), 10)?)
-}
-
-// Returns the number of bytes of so many kB.
-fn bytes_of_kb(kb: u64) -> Option<u64>
-    ensures { result ≡ bytes_of_kb kb }
-{
-    kb.checked_mul(1024)
+    let digits = status_value(status, key)?.strip_suffix(b" kB")?;
+    number_64(digits.as_bytes(), 10)?.checked_mul(1024)
 }
 
 // Copies a value of Linux's description of the processors.
@@ -153,35 +138,20 @@ fn spaced(byte: u8) -> u8
 
 // ---- the comments
 
-// Makes the comments of a dump.
+// Makes the comments of a dump: the text of each stream before its first 0.
 pub(crate) fn comments_of(alloc: Global, dump: &Minidump<'_>) -> Result<Comments, AllocError>
     ensures { IfOk result (λ comments. comments_of comments ≡ comments_in (dump_of dump.now)) }
 {
-    let narrow = narrow_comment(alloc, dump)?;
+    let narrow = match dump.get_raw_stream(MINIDUMP_STREAM_TYPE::CommentStreamA.number()) {
+        Ok(bytes) => Some(LinuxOsStr::from_bytes(before_nul(bytes)).to_string_lossy(alloc)?),
+        Err(_) => None,
+    };
     let (wide, is_wide_damaged) = wide_comment(alloc, dump)?;
     Ok(Comments {
         narrow,
         wide,
         is_wide_damaged,
     })
-}
-
-// Makes the comment in bytes.
-fn narrow_comment(alloc: Global, dump: &Minidump<'_>) -> Result<Option<String>, AllocError>
-    ensures { IfOk result (λ text. option_map string_bytes text
-        ≡ (comments_in (dump_of dump.now)).narrow) }
-{
-    match dump.get_raw_stream(MINIDUMP_STREAM_TYPE::CommentStreamA.number()) {
-        Ok(bytes) => Ok(Some(comment_text(alloc, bytes)?)),
-        Err(_) => Ok(None),
-    }
-}
-
-// Makes the text of bytes before the first 0.
-fn comment_text(alloc: Global, bytes: &[u8]) -> Result<String, AllocError>
-    ensures { IfOk result (λ text. string_bytes text ≡ comment_text bytes.now) }
-{
-    LinuxOsStr::from_bytes(before_nul(bytes)).to_string_lossy(alloc)
 }
 
 // Returns the bytes before the first 0, or all if none is 0.
@@ -201,40 +171,21 @@ fn first_nul(bytes: &[u8]) -> Option<usize>
     bytes.iter().position(|byte| *byte == 0)
 }
 
-// Makes the comment in UTF-16, and tells whether it is damaged.
+// Makes the comment in UTF-16, its text before the first 0, and tells whether it is damaged.
 fn wide_comment(alloc: Global, dump: &Minidump<'_>) -> Result<(Option<String>, bool), AllocError>
     ensures text { IfOk result (λ found. option_map string_bytes found.0
         ≡ (comments_in (dump_of dump.now)).wide) }
     ensures damaged { IfOk result (λ found. found.1
         ≡ (comments_in (dump_of dump.now)).is_wide_damaged) }
 {
-    match dump.get_raw_stream(MINIDUMP_STREAM_TYPE::CommentStreamW.number()) {
-        Ok(bytes) => wide_text(alloc, bytes, dump.endian),
-        Err(_) => Ok((None, false)),
-    }
-}
-
-// Makes the text of UTF-16 before the first 0, and tells whether it is damaged.
-fn wide_text(
-    alloc: Global,
-    bytes: &[u8],
-    endian: Endian,
-) -> Result<(Option<String>, bool), AllocError>
-    ensures text { IfOk result
-        (λ found. option_map string_bytes found.0 ≡ wide_text endian bytes.now) }
-    ensures damaged { IfOk result (λ found. found.1 ≡ is_damaged endian bytes.now) }
-{
-    let units = units_of(alloc, bytes, endian)?;
+    let Ok(bytes) = dump.get_raw_stream(MINIDUMP_STREAM_TYPE::CommentStreamW.number()) else {
+        return Ok((None, false));
+    };
+    let units = units_of(alloc, bytes, dump.endian)?;
     let text = text_before_nul(alloc, units.as_slice())?;
-    let is_damaged = text.is_none() || is_cut(bytes.len(), units.as_slice());
+    let is_cut = bytes.len() % 2 == 1 && none_is_0(units.as_slice());
+    let is_damaged = text.is_none() || is_cut;
     Ok((text, is_damaged))
-}
-
-// Tells whether the last of so many bytes is half a code unit, and no whole one is 0.
-fn is_cut(len: usize, units: &[u16]) -> bool
-    ensures { result ≡ is_cut len units.now }
-{
-    len % 2 == 1 && none_is_0(units)
 }
 
 // Tells whether no code unit is 0.

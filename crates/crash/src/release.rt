@@ -4,8 +4,7 @@ ghost use Rattle.std.specs.Option.{option_map};
 ghost use Rattle.minidump.specs.Below.Bytes.LinuxOsStr.{text_of};
 ghost use Rattle.minidump.specs.Below.Contexts.Context.{map_ok};
 ghost use Rattle.minidump.specs.Promise.{linux_lsb_release_stream};
-ghost use Rattle.crash.specs.Release.{first_value, release_by, release_in, release_of, text_value};
-ghost use Rattle.crash.specs.Release.{without_single_quotes};
+ghost use Rattle.crash.specs.Release.{release_in, release_of, text_value, without_single_quotes};
 
 use minidump::strings::LinuxOsStr;
 use minidump::{Error, MinidumpLinuxLsbRelease};
@@ -35,23 +34,15 @@ pub(crate) fn release_of(
     ensures { IfOk result (λ found. option_map release_of found
         ≡ release_in (map_ok linux_lsb_release_stream.value release.now)) }
 {
-    match release {
-        Ok(release) => Ok(Some(release_by(alloc, release)?)),
-        Err(_) => Ok(None),
-    }
-}
-
-// Returns the release of a stream.
-fn release_by(alloc: Global, stream: &MinidumpLinuxLsbRelease<'_>) -> Result<LsbRelease, AllocError>
-    ensures { IfOk result (λ release. release_of release
-        ≡ release_by (linux_lsb_release_stream.value stream.now)) }
-{
-    Ok(LsbRelease {
-        id: text_value(alloc, stream, b"DISTRIB_ID", b"ID")?,
-        release: text_value(alloc, stream, b"DISTRIB_RELEASE", b"VERSION_ID")?,
-        codename: text_value(alloc, stream, b"DISTRIB_CODENAME", b"VERSION_CODENAME")?,
-        description: text_value(alloc, stream, b"DISTRIB_DESCRIPTION", b"PRETTY_NAME")?,
-    })
+    let Ok(release) = release else {
+        return Ok(None);
+    };
+    Ok(Some(LsbRelease {
+        id: text_value(alloc, release, b"DISTRIB_ID", b"ID")?,
+        release: text_value(alloc, release, b"DISTRIB_RELEASE", b"VERSION_ID")?,
+        codename: text_value(alloc, release, b"DISTRIB_CODENAME", b"VERSION_CODENAME")?,
+        description: text_value(alloc, release, b"DISTRIB_DESCRIPTION", b"PRETTY_NAME")?,
+    }))
 }
 
 // Copies the value of the first pair that has one of two keys, without single quotes.
@@ -64,10 +55,12 @@ fn text_value(
     ensures { IfOk result (λ text. option_map string_bytes text
         ≡ text_value (linux_lsb_release_stream.value stream.now) key.now other.now) }
 {
-    match first_value(stream, key, other) {
-        Some(value) => Ok(Some(without_single_quotes(value).to_string_lossy(alloc)?)),
-        None => Ok(None),
+    for (name, value) in stream.iter() {
+        if name.as_bytes() == key || name.as_bytes() == other {
+            return Ok(Some(without_single_quotes(value).to_string_lossy(alloc)?));
+        }
     }
+    Ok(None)
 }
 
 // Returns a value without the single quotes at its ends, or as it is if one of them is missing.
@@ -82,21 +75,4 @@ fn without_single_quotes(value: LinuxOsStr<'_>) -> LinuxOsStr<'_>
     } else {
         value
     }
-}
-
-// Returns the value of the first pair that has one of two keys.
-fn first_value<'a>(
-    stream: &MinidumpLinuxLsbRelease<'a>,
-    key: &[u8],
-    other: &[u8],
-) -> Option<LinuxOsStr<'a>>
-    ensures { option_map text_of result
-        ≡ first_value (linux_lsb_release_stream.value stream.now) key.now other.now }
-{
-    for (name, value) in stream.iter() {
-        if name.as_bytes() == key || name.as_bytes() == other {
-            return Some(value);
-        }
-    }
-    None
 }

@@ -1,6 +1,5 @@
-ghost use Rattle.std.specs.Prelude.{◌≡◌, IfOk, IsOkUnless, length, map};
-ghost use Rattle.std.specs.Option.{option_map};
-ghost use Rattle.std.specs.Result.{result_err, result_ok};
+ghost use Rattle.std.specs.Prelude.{◌≡◌, IfOk, IsOkUnless, map};
+ghost use Rattle.std.specs.Result.{result_err};
 ghost use Rattle.minidump.specs.Below.Contexts.Context.{map_ok};
 ghost use Rattle.minidump.specs.Below.MemoryLists.Unified.{unified_list, unified_region};
 ghost use Rattle.minidump.specs.Below.MemoryLists.Unified.{unified_regions};
@@ -8,9 +7,8 @@ ghost use Rattle.minidump.specs.Below.MemoryLists.UnifiedInfo.{info_list};
 ghost use Rattle.minidump.specs.DumpValue.{dump_of};
 ghost use Rattle.minidump.specs.Promise.{linux_maps_stream, memory64_list_stream};
 ghost use Rattle.minidump.specs.Promise.{memory_info_list_stream, memory_list_stream};
-ghost use Rattle.minidump.specs.Promise.{module_list_stream};
 ghost use Rattle.crash.specs.Contents.{space_streams_in, space_streams_of};
-ghost use Rattle.crash.specs.Space.{first_infos, first_memory, listed_or_none, regions_outside_of};
+ghost use Rattle.crash.specs.Space.{first_infos, first_memory};
 
 use minidump::{
     Error, Minidump, MinidumpLinuxMaps, MinidumpMemory64List, MinidumpMemoryInfoList,
@@ -69,9 +67,9 @@ pub(crate) fn space_streams<'a>(
     ensures streams { IfOk result (λ s. space_streams_of s ≡ space_streams_in (dump_of dump.now)) }
     ensures memory { IsOkUnless result Error.OutOfMemory }
 {
-    let modules = dump.try_stream(alloc)?;
+    let modules: Result<MinidumpModuleList, Error> = dump.try_stream(alloc)?;
     let modules_error = error_of(&modules);
-    let modules = modules_or_none(alloc, modules);
+    let modules = modules.unwrap_or(MinidumpModuleList::new(alloc));
     let unloaded = dump.try_stream(alloc)?;
     let (memory, memory_errors, regions_outside) = memory_streams(alloc, dump)?;
     let (infos, infos_errors, map_count) = info_streams(alloc, dump)?;
@@ -101,9 +99,9 @@ fn memory_streams<'a>(
     ensures memory { IsOkUnless result Error.OutOfMemory }
 {
     let memory64 = dump.try_stream(alloc)?;
-    let plain = dump.try_stream(alloc)?;
+    let plain: Result<MinidumpMemoryList<'_>, Error> = dump.try_stream(alloc)?;
     let errors = (error_of(&memory64), error_of(&plain));
-    let outside = regions_outside_of(&plain);
+    let outside = plain.as_ref().map_or(0, |plain| plain.regions_outside());
     Ok((first_memory(alloc, memory64, plain), errors, outside))
 }
 
@@ -126,9 +124,9 @@ fn info_streams<'a>(
     ensures memory { IsOkUnless result Error.OutOfMemory }
 {
     let infos = dump.try_stream(alloc)?;
-    let maps = dump.try_stream(alloc)?;
+    let maps: Result<MinidumpLinuxMaps<'_>, Error> = dump.try_stream(alloc)?;
     let errors = (error_of(&infos), error_of(&maps));
-    let map_count = count_of(&maps);
+    let map_count = maps.as_ref().ok().map(|maps| maps.memory_map_count());
     Ok((first_infos(alloc, infos, maps), errors, map_count))
 }
 
@@ -139,17 +137,6 @@ pub(crate) fn error_of<'a, S: MinidumpStream<'a>>(found: &Result<S, Error>) -> O
     match found {
         Ok(_) => None,
         Err(error) => Some(*error),
-    }
-}
-
-// Returns the modules, or none.
-fn modules_or_none(alloc: Global, found: Result<MinidumpModuleList, Error>) -> MinidumpModuleList
-    ensures { module_list_stream.value result
-        ≡ listed_or_none (map_ok module_list_stream.value found) }
-{
-    match found {
-        Ok(modules) => modules,
-        Err(_) => MinidumpModuleList::new(alloc),
     }
 }
 
@@ -170,16 +157,6 @@ fn first_memory<'a>(
     }
 }
 
-// Returns the number of regions of the plain list of memory that are outside the file.
-fn regions_outside_of(memory: &Result<MinidumpMemoryList<'_>, Error>) -> u64
-    ensures { result ≡ regions_outside_of (map_ok memory_list_stream.value memory.now) }
-{
-    match memory {
-        Ok(memory) => memory.regions_outside(),
-        Err(_) => 0,
-    }
-}
-
 // Returns the first list of information that could be read, or none.
 fn first_infos<'a>(
     alloc: Global,
@@ -194,15 +171,5 @@ fn first_infos<'a>(
         (Ok(list), _) => UnifiedMemoryInfoList::Info(list),
         (Err(_), Ok(list)) => UnifiedMemoryInfoList::Maps(list),
         (Err(_), Err(_)) => UnifiedMemoryInfoList::empty(alloc),
-    }
-}
-
-// Returns the number of lines of the maps.
-fn count_of(maps: &Result<MinidumpLinuxMaps<'_>, Error>) -> Option<usize>
-    ensures { result ≡ option_map length (result_ok (map_ok linux_maps_stream.value maps.now)) }
-{
-    match maps {
-        Ok(maps) => Some(maps.memory_map_count()),
-        Err(_) => None,
     }
 }

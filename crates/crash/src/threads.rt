@@ -1,15 +1,12 @@
-ghost use Rattle.std.specs.Prelude.{◌≡◌, ◌==◌, ◌++◌, IfOk, IsOkUnless, OnOk, map};
+ghost use Rattle.std.specs.Prelude.{◌≡◌, IfOk, IsOkUnless, map};
 ghost use Rattle.std.specs.Option.{option_copied, option_map};
-ghost use Rattle.minidump.specs.Below.Contexts.Context.{map_ok};
-ghost use Rattle.minidump.specs.Promise.{exception_stream, thread_list_stream};
+ghost use Rattle.minidump.specs.Promise.{exception_stream};
 ghost use Rattle.minidump.specs.Thread.{thread_of};
 ghost use Rattle.crash.specs.Contents.{contents_of};
-ghost use Rattle.crash.specs.Threads.{all_threads, crashed_thread, crashing_at, extra_in};
-ghost use Rattle.crash.specs.Threads.{extra_threads};
-ghost use Rattle.crash.specs.Threads.{has_thread, listed_in, short_context, thread_value};
-ghost use Rattle.crash.specs.Threads.{extra_walked, threads_by, threads_in, threads_of, walked_at};
+ghost use Rattle.crash.specs.Threads.{all_threads, crashed_thread, crashing_at, extra_in, extra_walked};
+ghost use Rattle.crash.specs.Threads.{short_context, thread_value, threads_in, threads_of, unlisted};
+ghost use Rattle.crash.specs.Threads.{walked_at};
 ghost use Rattle.crash.specs.Frames.{walked_of};
-ghost use Rattle.crash.specs.Last.{last_index};
 
 use crate::contents::Contents;
 use crate::contexts::{
@@ -23,9 +20,7 @@ use crate::last::last_index;
 use crate::process::copy;
 use crate::stacks::{StackRange, is_outside, named_stack, stack_memory};
 use crate::thread_facts::{entries_of, last_error_of, name_of};
-use minidump::{
-    CodeNames, Error, MinidumpContext, MinidumpException, MinidumpThread, MinidumpThreadList,
-};
+use minidump::{CodeNames, Error, MinidumpContext, MinidumpException, MinidumpThread};
 use stack_walk::Stack;
 use std::alloc::Global;
 
@@ -47,8 +42,7 @@ impl CrashThreads {
             ≡ crashed_thread (threads_of self.now) }
     {
         let index = self.crashing?;
-        let thread = self.threads.get(index)?;
-        Some((index, thread))
+        Some((index, self.threads.get(index)?))
     }
 }
 
@@ -110,33 +104,17 @@ pub(crate) fn threads_of(
         scan,
         exception,
     };
-    threads_by(alloc, &each)
-}
-
-// Returns the same by what the threads have in common.
-fn threads_by(alloc: Global, each: &EachThread<'_, '_, '_>) -> Result<CrashThreads, Error>
-    ensures threads { IfOk result (λ threads. threads_of threads
-        ≡ threads_by each.now.names.now each.now.scan (contents_of each.now.contents.now)
-        (option_map exception_stream.value (option_copied each.now.exception))) }
-    ensures memory { IsOkUnless result Error.OutOfMemory }
-{
-    let threads = all_threads(alloc, each)?;
-    let crashing = crashing_at(threads.as_slice(), each.exception);
+    let threads = all_threads(alloc, &each)?;
+    let crashing = crashing_at(threads.as_slice(), exception);
     Ok(CrashThreads { threads, crashing })
 }
 
-// Returns the index of the thread that crashed.
+// Returns the index of the thread that crashed: the last of the exception's id.
 fn crashing_at(threads: &[CrashThread], exception: Option<&MinidumpException<'_>>) -> Option<usize>
     ensures { result ≡ crashing_at (map thread_value threads.now)
         (option_map exception_stream.value (option_copied exception.entry)) }
 {
-    last_of_id(threads, exception?.thread_id)
-}
-
-// Returns the index of the last thread of an id.
-fn last_of_id(threads: &[CrashThread], id: u32) -> Option<usize>
-    ensures { result ≡ last_index (λ t. t.id == id) (map thread_value threads.now) }
-{
+    let id = exception?.thread_id;
     last_index(threads, |thread| thread.id == id)
 }
 
@@ -147,56 +125,27 @@ fn all_threads(alloc: Global, each: &EachThread<'_, '_, '_>) -> Result<Vec<Crash
         (option_map exception_stream.value (option_copied each.now.exception))) }
     ensures memory { IsOkUnless result Error.OutOfMemory }
 {
-    let mut threads = listed(alloc, each)?;
-    push_extra(alloc, &mut threads, each)?;
+    let contents = each.contents;
+    let mut threads = make_items(alloc, each, entries_of(&contents.threads.threads))?;
+    if let Some(exception) = unlisted(contents, each.exception) {
+        threads.push(extra(alloc, contents, exception, each.scan)?)?;
+    }
     Ok(threads)
 }
 
-// Returns the threads of the list.
-fn listed(alloc: Global, each: &EachThread<'_, '_, '_>) -> Result<Vec<CrashThread>, Error>
-    ensures threads { IfOk result (λ ts. map thread_value ts.items
-        ≡ listed_in each.now.names.now each.now.scan (contents_of each.now.contents.now)
-        (option_map exception_stream.value (option_copied each.now.exception))) }
-    ensures memory { IsOkUnless result Error.OutOfMemory }
+// Returns an exception if the list lacks its thread.
+fn unlisted<'l, 'a>(
+    contents: &Contents<'a>,
+    exception: Option<&'l MinidumpException<'a>>,
+) -> Option<&'l MinidumpException<'a>>
+    ensures { option_map exception_stream.value (option_copied result)
+        ≡ unlisted (contents_of contents.now)
+        (option_map exception_stream.value (option_copied exception.entry)) }
 {
-    match &each.contents.threads.threads {
-        Ok(list) => make_items(alloc, each, &list.threads),
-        Err(_) => Ok(Vec::new(alloc)),
-    }
-}
-
-// Appends the thread of the exception if the list lacks it.
-fn push_extra(
-    alloc: Global,
-    threads: &mut Vec<CrashThread>,
-    each: &EachThread<'_, '_, '_>,
-) -> Result<(), Error>
-    ensures threads { OnOk result (map thread_value threads.new.items
-        ≡ map thread_value threads.old.items
-        ++ extra_threads each.now.scan (contents_of each.now.contents.now)
-        (option_map exception_stream.value (option_copied each.now.exception))) }
-    ensures memory { IsOkUnless result Error.OutOfMemory }
-{
-    let Some(exception) = each.exception else {
-        return Ok(());
-    };
-    if has_thread(&each.contents.threads.threads, exception.thread_id) {
-        return Ok(());
-    }
-    threads.push(extra(alloc, each.contents, exception, each.scan)?)?;
-    Ok(())
-}
-
-// Tells whether a thread of the list has an id.
-fn has_thread(threads: &Result<MinidumpThreadList<'_>, Error>, id: u32) -> bool
-    ensures { result ≡ has_thread id (map_ok thread_list_stream.value threads.now) }
-{
-    match threads {
-        Ok(list) => match list.get_thread(id) {
-            Some(_) => true,
-            None => false,
-        },
-        Err(_) => false,
+    let exception = exception?;
+    match &contents.threads.threads {
+        Ok(list) if list.get_thread(exception.thread_id).is_some() => None,
+        _ => Some(exception),
     }
 }
 
@@ -300,9 +249,5 @@ fn extra_walked<'l, 'a>(
     ensures { option_map walked_of result ≡ extra_walked (contents_of contents.now)
         (option_map exception_stream.value (option_copied exception.entry)) }
 {
-    let exception = exception?;
-    if has_thread(&contents.threads.threads, exception.thread_id) {
-        return None;
-    }
-    walked_exception(contents, exception)
+    walked_exception(contents, unlisted(contents, exception)?)
 }

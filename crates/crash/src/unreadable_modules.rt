@@ -3,14 +3,14 @@ ghost use Rattle.std.specs.Prelude.{◌≡◌, ◌++◌, [], IfOk, IsOkUnless, O
 ghost use Rattle.std.specs.List.{cons_option};
 ghost use Rattle.minidump.specs.Dump.{dump_in};
 ghost use Rattle.minidump.specs.DumpValue.{dump_of};
-ghost use Rattle.crash.specs.UnreadableModules.{entries_in, part_in, part_of, unreadable_among};
+ghost use Rattle.crash.specs.UnreadableModules.{entries_in, part_in, unreadable_among};
 ghost use Rattle.crash.specs.UnreadableModules.{unreadable_by, unreadable_in};
 
 use minidump::format::MINIDUMP_MODULE;
 use minidump::own_streams::Entries;
 use minidump::own_streams::framing::plain_entries;
 use minidump::{Endian, Error, Minidump, MinidumpModule, Range, Source, Steps};
-use std::alloc::{AllocError, Global};
+use std::alloc::Global;
 
 /// An entry of the list of modules that can't be read, for which the list as a whole can't be.
 #[derive(Clone, Copy, PartialEq, Eq)]
@@ -75,49 +75,35 @@ fn unreadable_among(
     let mut modules = Vec::new(alloc);
     for index in 0..entries.len() {
         let raw = entries.read(index, &mut Steps::new());
-        let found = unreadable_at(alloc, file, endian, index, &raw)?;
-        push_found(&mut modules, found)?;
+        push_unreadable(&mut modules, file, endian, index, &raw)?;
     }
     Ok(modules)
 }
 
-// Appends what was found.
-fn push_found(
+// Appends an entry and its index, if something of it can't be read.
+fn push_unreadable(
     modules: &mut Vec<UnreadableModule>,
-    found: Option<UnreadableModule>,
-) -> Result<(), AllocError>
-    ensures { OnOk result (modules.new.items ≡ modules.old.items ++ cons_option found []) }
-{
-    match found {
-        Some(found) => Ok(modules.push(found)?),
-        None => Ok(()),
-    }
-}
-
-// Returns an entry and its index, if something of it can't be read.
-fn unreadable_at(
-    alloc: Global,
     file: &[u8],
     endian: Endian,
     index: usize,
     raw: &MINIDUMP_MODULE,
-) -> Result<Option<UnreadableModule>, Error>
-    ensures found { IfOk result (λ found. found
-        ≡ unreadable_in endian file.now (index, raw.now)) }
+) -> Result<(), Error>
+    ensures modules { OnOk result (modules.new.items ≡ modules.old.items
+        ++ cons_option (unreadable_in endian file.now (index, raw.now)) []) }
     ensures memory { IsOkUnless result Error.OutOfMemory }
 {
-    match part_in(alloc, file, endian, raw)? {
-        Some(part) => Ok(Some(UnreadableModule {
+    if let Some(part) = part_in(*modules.allocator(), file, endian, raw)? {
+        modules.push(UnreadableModule {
             index,
             base: raw.base_of_image,
             size: raw.size_of_image,
             part,
-        })),
-        None => Ok(None),
+        })?;
     }
+    Ok(())
 }
 
-// Returns what of an entry can't be read, if it has addresses.
+// Returns what of an entry that has addresses can't be read: its name, else its CodeView record.
 fn part_in(
     alloc: Global,
     file: &[u8],
@@ -127,28 +113,11 @@ fn part_in(
     ensures part { IfOk result (λ part. part ≡ part_in endian file.now raw.now) }
     ensures memory { IsOkUnless result Error.OutOfMemory }
 {
-    match Range::from_size(raw.base_of_image, raw.size_of_image as u64) {
-        Some(_) => part_of(alloc, file, endian, raw),
-        None => Ok(None),
+    if Range::from_size(raw.base_of_image, raw.size_of_image as u64).is_none() {
+        return Ok(None);
     }
-}
-
-// Returns what of an entry can't be read: its name, else its CodeView record.
-fn part_of(
-    alloc: Global,
-    file: &[u8],
-    endian: Endian,
-    raw: &MINIDUMP_MODULE,
-) -> Result<Option<ModulePart>, Error>
-    ensures part { IfOk result (λ part. part ≡ part_of endian file.now raw.now) }
-    ensures memory { IsOkUnless result Error.OutOfMemory }
-{
-    let name = Source::new(file).text16(
-        alloc,
-        raw.module_name_rva as u64,
-        endian,
-        &mut Steps::new(),
-    )?;
+    let rva = raw.module_name_rva as u64;
+    let name = Source::new(file).text16(alloc, rva, endian, &mut Steps::new())?;
     if name.is_none() {
         return Ok(Some(ModulePart::Name));
     }

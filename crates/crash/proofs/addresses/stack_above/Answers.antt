@@ -9,6 +9,6 @@ use Rattle.crash.proofs.addresses.stack_above.Goals as goal
 
 pub returns : goal.returns
 returns c =
-    let threads = c.entries_of-threads in
+    let threads = c.entries_of in
     c.last_index.ensures _ (λ x b k. search (rules, tests)) ∙ last_value thread_of (λ t. is_below_stack c.args.address (named_stack t.raw.stack)) threads.result.now
     ∙ ap (last_index (λ t. is_below_stack c.args.address (named_stack t.raw.stack))) threads.ensures

@@ -3,7 +3,7 @@ use Rattle.std.proofs.Common.{◌≡◌, ◌*◌, ◌≤◌, take}
 use Rattle.std.specs.List.{sum_by}
 use Rattle.minidump.specs.Below.Records.Handles.{handle_of}
 use Rattle.crash.specs.Texts.{names_lacking}
-use Rattle.crash.proofs.texts.all_names_lacking.Given as goal
+use Rattle.crash.proofs.texts.handles_lacking.Given as goal
 
 abbrev pub invariant-loop-handle : goal.invariant-loop-handle
 invariant-loop-handle l = record {

@@ -3,8 +3,8 @@ use Rattle.std.proofs.Common.{◌≡◌, ◌++◌, ◌∷◌, map, string_bytes,
 use Rattle.std.specs.List.{flat_map}
 use Rattle.std.specs.Str.Lossy.{utf8_lossy}
 use Rattle.minidump.specs.Below.Bytes.LinuxOsStr.{text_of}
-use Rattle.crash.proofs.linux.words_after.Given as goal
+use Rattle.crash.proofs.linux.joined_words.Given as goal
 
 abbrev pub invariant-loop-other : goal.invariant-loop-other
 invariant-loop-other l = string_bytes l.text
-    ≡ utf8_lossy (text_of l.first) ++ flat_map (λ word. 0x20 ∷ utf8_lossy word) (map text_of (take l.other-index l.others))
+    ≡ string_bytes l.initial.text ++ flat_map (λ word. 0x20 ∷ utf8_lossy word) (map text_of (take l.other-index l.others))

@@ -4,7 +4,7 @@ use Rattle.minidump.specs.DumpValue.{dump_of}
 use Rattle.minidump.specs.Streams.{streams_left}
 use Rattle.crash.specs.Contents.{contents_of}
 use Rattle.crash.specs.Directory.{entries_in, entry_in}
-use Rattle.crash.proofs.directory.entries_of.Given as goal
+use Rattle.crash.proofs.directory.directory_of.Given as goal
 
 abbrev pub invariant-loop-entry : goal.invariant-loop-entry
 invariant-loop-entry l =
