@@ -1,11 +1,10 @@
 -- Which symbol file belongs to a module.
-use Rattle.std.specs.Prelude.{ℕ, ◌==◌, ◌&&◌, ◌||◌, ◌++◌, Bool, false, not, List, codes, length, map, Option, Some, None}
-use Rattle.std.specs.Prelude.{if◌then◌else◌, nat_lt}
+use Rattle.std.specs.Prelude.{ℕ, ◌==◌, ◌&&◌, ◌||◌, ◌++◌, ◌-◌, Bool, false, not, List, codes, drop}
+use Rattle.std.specs.Prelude.{length, map, take, Option, Some, None, if◌then◌else◌, nat_lt}
 use Rattle.std.specs.Char.{to_ascii_lowercase}
 use Rattle.std.specs.List.{list_any}
 use Rattle.std.specs.Option.{option_and_then, option_map, option_map_or}
 use Rattle.std.specs.Str.{bytes_eq}
-use Rattle.minidump_bytes.specs.LinuxOsStr.{cut_last}
 use Rattle.breakpad_symbols.specs.SymbolFile.{SymbolsValue}
 use Rattle.crash.specs.FileName.{file_name}
 use Rattle.crash.specs.Modules.{LoadedValue}
@@ -35,13 +34,14 @@ plain_name name = if is_plain_name name then Some name else None
 
 -- the name of a debug file without the ending `.pdb`, in letters of either case
 abbrev pub stem : List ℕ → List ℕ
-stem name = option_map_or
-    (λ p. if same_letters p.1 (codes "pdb") then p.0 else name) (cut_last 46 name) name
+stem name = let len = length name - 4 in
+    if same_letters (drop len name) (codes ".pdb") then take len name else name
 
 -- the path of a debug file's symbols by its name and identifier: `name/id/name.sym`, the last name
 -- without the ending `.pdb`
 abbrev pub path_of : List ℕ → List ℕ → List ℕ
-path_of name id = name ++ codes "/" ++ id ++ codes "/" ++ stem name ++ codes ".sym"
+path_of name id =
+    name ++ (codes "/" ++ (id ++ (codes "/" ++ (stem name ++ codes ".sym"))))
 
 -- the path of a module's symbol file: none where it lacks a name or an identifier, or one isn't plain
 abbrev pub symbol_path : LoadedValue → Option (List ℕ)

@@ -27,14 +27,8 @@ pub record CallValue : Type 0 where
   pub function : Option (List ℕ)
   pub source : Option SourceValue
 
--- the function of a frame, where in it the frame is, and the calls put in place there, the innermost
--- first
-pub record NamesValue : Type 0 where
-  pub function : Option FunctionName
-  pub line : Option SourceValue
-  pub inlines : List CallValue
-
--- a frame with its names
+-- a frame with the function that it is in, the source line in that, and the calls put in place there,
+-- the innermost first
 pub record NamedFrameValue : Type 0 where
   pub frame : CrashFrame
   pub function : Option FunctionName
@@ -47,21 +41,17 @@ pub record NamedFrameValue : Type 0 where
 abbrev pub function_at : SymbolsValue → ℕ → Option FunctionValue
 function_at s offset = looked_up range_of_lines s.functions offset
 
--- the name for an offset: of the function that has it, else of the public symbol
-abbrev pub name_at : SymbolsValue → ℕ → Option FunctionValue → Option FunctionName
-name_at s offset (Some f) = Some (record { name = f.name; offset = offset - f.address })
-name_at s offset None =
+-- the name of the public symbol of an offset
+abbrev pub public_name : SymbolsValue → ℕ → Option FunctionName
+public_name s offset =
     option_map (λ p. record { name = p.name; offset = offset - p.address }) (public_at s offset)
 
 -- ---- source lines and calls put in place
 
--- the source line of these numbers
-abbrev pub source_in : SymbolsValue → ℕ → ℕ → SourceValue
-source_in s file line = record { file = file_name s.files file; line = line }
-
--- that of the line record of an offset in a function
+-- the source line of the line record of an offset in a function
 abbrev pub line_at : SymbolsValue → FunctionValue → ℕ → Option SourceValue
-line_at s f offset = option_map (λ r. source_in s r.file r.line) (line_in f offset)
+line_at s f offset =
+    option_map (λ r. record { file = file_name s.files r.file; line = r.line }) (line_in f offset)
 
 -- that of a call put in place: without a file where its number isn't known
 abbrev pub source_of_call : SymbolsValue → InlineCall → SourceValue
@@ -100,39 +90,27 @@ line_around s line (call ∷ outer) = line_around s (Some (source_of_call s call
 
 -- ---- names
 
--- the names of an offset in a function: the line record is that of the innermost call
-abbrev pub names_in : SymbolsValue → FunctionValue → ℕ → NamesValue
-names_in s f offset =
-    let calls = reverse (calls_in f offset) in record {
-      function = name_at s offset (Some f);
-      line = line_around s (line_at s f offset) calls;
-      inlines = inlines_by s (line_at s f offset) calls;
+-- a frame without names
+abbrev pub unnamed : CrashFrame → NamedFrameValue
+unnamed f = record { frame = f; function = None; line = None; inlines = [] }
+
+-- a frame at an offset in a function: the line record is that of the innermost call
+abbrev pub named_by : SymbolsValue → FunctionValue → CrashFrame → ℕ → NamedFrameValue
+named_by s function f offset =
+    let calls = reverse (calls_in function offset) in record {
+      frame = f;
+      function = Some (record { name = function.name; offset = offset - function.address });
+      line = line_around s (line_at s function offset) calls;
+      inlines = inlines_by s (line_at s function offset) calls;
     }
 
--- the name alone, where no function has the offset
-abbrev pub public_names : SymbolsValue → ℕ → NamesValue
-public_names s offset = record { function = name_at s offset None; line = None; inlines = [] }
-
--- the names of an offset in a module with these symbols
-abbrev pub names_at : SymbolsValue → ℕ → NamesValue
-names_at s offset = option_map_or (λ f. names_in s f offset) (function_at s offset) (public_names s offset)
-
--- the names of a frame without symbols
-abbrev pub no_names : NamesValue
-no_names = record { function = None; line = None; inlines = [] }
-
--- the names of a place in a module, by the symbols of the modules
-abbrev pub names_of_place : List (Option SymbolsValue) → ℕ × ℕ → NamesValue
-names_of_place files place = option_map_or (λ s. names_at s place.1) (symbols_of_module files place.0) no_names
-
--- the names of a frame, by the symbols of the modules
-abbrev pub names_of : List (Option SymbolsValue) → CrashFrame → NamesValue
-names_of files f = option_map_or (names_of_place files) f.«module» no_names
-
--- a frame with such names
-abbrev pub with_names : CrashFrame → NamesValue → NamedFrameValue
-with_names f n = record { frame = f; function = n.function; line = n.line; inlines = n.inlines }
+-- a frame at an offset in a module with these symbols: the name of a public symbol alone, where no
+-- function has the offset
+abbrev pub named_at : SymbolsValue → CrashFrame → ℕ → NamedFrameValue
+named_at s f offset = option_map_or (λ function. named_by s function f offset) (function_at s offset)
+    (record { frame = f; function = public_name s offset; line = None; inlines = [] })
 
 -- a frame with its names, by the symbols of the modules
 abbrev pub named_in : List (Option SymbolsValue) → CrashFrame → NamedFrameValue
-named_in files f = with_names f (names_of files f)
+named_in files f = option_map_or (λ place. option_map_or (λ s. named_at s f place.1)
+    (symbols_of_module files place.0) (unnamed f)) f.«module» (unnamed f)

@@ -11,17 +11,13 @@ use Rattle.crash_symbols.specs.declared.shown.ShownWalk.{ShownWalk}
 use Rattle.crash_symbols.specs.declared.symbols.SymbolState.{SymbolState}
 use Rattle.crash_symbols.specs.Backtraces.{BacktraceValue, backtraces_of}
 use Rattle.crash_symbols.specs.NameParts.{call_of, function_of, source_of}
-use Rattle.crash_symbols.specs.Names.{NamedFrameValue, no_names, with_names}
+use Rattle.crash_symbols.specs.Names.{NamedFrameValue, unnamed}
 use Rattle.crash_symbols.specs.Symbols.{known_of}
 
 -- what is known of the symbol file of each module, by its index, and the backtraces of the threads
 pub record SymbolizedValue : Type 0 where
   pub states : List SymbolState
   pub threads : List (Option BacktraceValue)
-
--- a frame without names
-abbrev pub unnamed : CrashFrame → NamedFrameValue
-unnamed f = with_names f no_names
 
 -- a walk without names
 abbrev pub unnamed_walk : CrashWalkValue → BacktraceValue

@@ -9,21 +9,14 @@ use Rattle.crash_symbols.specs.Backtraces.{BacktraceValue}
 use Rattle.crash_symbols.specs.Names.{NamedFrameValue}
 use Rattle.crash_symbols.specs.Symbols.{state_at}
 
--- a place is in the module of an index
-abbrev pub is_in : ℕ → Option (ℕ × ℕ) → Bool
-is_in index place = option_map_or (λ p. p.0 == index) place false
-
--- a frame lies in it
+-- a frame lies in the module of an index
 abbrev pub lies_in : ℕ → NamedFrameValue → Bool
-lies_in index f = is_in index f.frame.«module»
+lies_in index f = option_map_or (λ place. place.0 == index) f.frame.«module» false
 
--- a frame or a candidate of a backtrace does
-abbrev pub visits_by : ℕ → BacktraceValue → Bool
-visits_by index b = list_any (lies_in index) b.frames || list_any (lies_in index) b.candidates
-
--- the same of a thread, which may have no backtrace
+-- a frame or a candidate of a thread does, if the thread has a backtrace
 abbrev pub visits : ℕ → Option BacktraceValue → Bool
-visits index b = option_map_or (visits_by index) b false
+visits index thread = option_map_or (λ b.
+    list_any (lies_in index) b.frames || list_any (lies_in index) b.candidates) thread false
 
 -- nothing is known of a symbol file
 abbrev pub is_unwanted : SymbolState → Bool

@@ -1,9 +1,9 @@
-ghost use Rattle.std.specs.Prelude.{◌≡◌, ◌++◌, IfOk, codes, string_bytes};
+ghost use Rattle.std.specs.Prelude.{◌≡◌, IfOk, string_bytes};
 ghost use Rattle.std.specs.List.{list_any};
 ghost use Rattle.std.specs.Option.{option_map};
 ghost use Rattle.breakpad_symbols.specs.SymbolFile.{symbols_of};
 ghost use Rattle.crash.specs.Modules.{loaded_of};
-ghost use Rattle.crash_symbols.specs.Modules.{is_of_module, is_plain_name, path_of, same_letters, separates, stem};
+ghost use Rattle.crash_symbols.specs.Modules.{is_of_module, is_plain_name, separates, stem};
 ghost use Rattle.crash_symbols.specs.Modules.{symbol_path};
 
 use breakpad_symbols::SymbolFile;
@@ -16,7 +16,10 @@ pub fn is_of_module(file: &SymbolFile<'_>, module: &CrashModule) -> bool
     ensures { result ≡ is_of_module (symbols_of file.now) (loaded_of module.now) }
 {
     match &module.debug_id {
-        Some(id) => same_letters(file.module_record().id.as_bytes(), id.as_str().as_bytes()),
+        Some(id) => {
+            let found = file.module_record().id.as_bytes();
+            found.eq_ignore_ascii_case(id.as_str().as_bytes())
+        }
         None => false,
     }
 }
@@ -36,18 +39,11 @@ pub fn symbol_path(alloc: Global, module: &CrashModule) -> Result<Option<String>
     let Some(id) = &module.debug_id else {
         return Ok(None);
     };
-    let name = file_name(file.as_str());
-    if !is_plain_name(name) || !is_plain_name(id.as_str()) {
+    let (name, id) = (file_name(file.as_str()), id.as_str());
+    if !is_plain_name(name) || !is_plain_name(id) {
         return Ok(None);
     }
-    Ok(Some(path_of(alloc, name, id.as_str())?))
-}
-
-// Tells whether two texts are the same but for the case of letters.
-fn same_letters(a: &[u8], b: &[u8]) -> bool
-    ensures { result ≡ same_letters a.now b.now }
-{
-    a.eq_ignore_ascii_case(b)
+    Ok(Some(format!(in alloc; "{}/{}/{}.sym", name, id, stem(name))?))
 }
 
 // Tells whether a text can be the name of a file or a directory in another one.
@@ -68,27 +64,15 @@ fn has_separator(name: &[u8]) -> bool
     name.iter().any(|b| *b == b'/' || *b == b'\\' || *b == 0)
 }
 
-// Returns the path of the symbols of a debug file by its name and identifier.
-fn path_of(alloc: Global, name: &str, id: &str) -> Result<String, AllocError>
-    ensures { IfOk result (λ path. string_bytes path ≡ path_of name.now id.now) }
-{
-    joined(alloc, name, id, stem(name))
-}
-
-// Joins the parts of such a path.
-fn joined(alloc: Global, name: &str, id: &str, stem: &str) -> Result<String, AllocError>
-    ensures { IfOk result (λ path. string_bytes path
-        ≡ name.now ++ codes "/" ++ id.now ++ codes "/" ++ stem.now ++ codes ".sym") }
-{
-    format!(in alloc; "{}/{}/{}.sym", name, id, stem)
-}
-
 // Returns the name of a debug file without the ending `.pdb`.
+#[tactic(auto, using(crate::proofs::PathLemmas::before_dot))]
 fn stem(name: &str) -> &str
     ensures { result.now ≡ stem name.now }
 {
-    match name.rsplit_once('.') {
-        Some((stem, ending)) if same_letters(ending.as_bytes(), b"pdb") => stem,
-        _ => name,
+    let len = name.len().saturating_sub(4);
+    if name.as_bytes()[len..].eq_ignore_ascii_case(b".pdb") {
+        &name[..len]
+    } else {
+        name
     }
 }

@@ -1,12 +1,11 @@
 ghost use Rattle.std.specs.Prelude.{◌≡◌, IfOk, map, reverse};
-ghost use Rattle.std.specs.Option.{option_and_then, option_map};
+ghost use Rattle.std.specs.Option.{option_map};
 ghost use Rattle.breakpad_symbols.specs.Function.{function_of};
-ghost use Rattle.minidump_bytes.specs.LinuxOsStr.{text_of};
-ghost use Rattle.breakpad_symbols.specs.SymbolFile.{file_name, symbols_of};
+ghost use Rattle.breakpad_symbols.specs.SymbolFile.{symbols_of};
 ghost use Rattle.crash_symbols.specs.NameParts.{call_of, function_of as name_value, named_of, source_of};
-ghost use Rattle.crash_symbols.specs.Names.{by_depth, calls_in, function_at, inlines_by, line_around, line_at};
-ghost use Rattle.crash_symbols.specs.Names.{name_at, named_in, names_at, names_in, no_names};
-ghost use Rattle.crash_symbols.specs.Names.{source_in, source_of_call, with_names};
+ghost use Rattle.crash_symbols.specs.Names.{by_depth, calls_in, function_at, inlines_by, line_around};
+ghost use Rattle.crash_symbols.specs.Names.{line_at, named_at, named_by, named_in, public_name};
+ghost use Rattle.crash_symbols.specs.Names.{source_of_call};
 ghost use Rattle.crash_symbols.specs.Symbols.{known_of};
 
 use crate::Symbols;
@@ -69,25 +68,17 @@ pub(crate) fn named_in<'l>(
 ) -> Result<NamedFrame<'l>, AllocError>
     ensures { IfOk result (λ f. named_of f ≡ named_in (known_of symbols.now).files frame) }
 {
-    let Some((index, offset)) = frame.module else {
-        return Ok(unnamed(alloc, frame));
-    };
-    match symbols.file(index) {
-        Some(file) => named_at(alloc, file, frame, offset),
-        None => Ok(unnamed(alloc, frame)),
+    if let Some((index, offset)) = frame.module {
+        if let Some(file) = symbols.file(index) {
+            return named_at(alloc, file, frame, offset);
+        }
     }
-}
-
-// Returns a frame without names.
-fn unnamed<'l>(alloc: Global, frame: CrashFrame) -> NamedFrame<'l>
-    ensures { named_of result ≡ with_names frame no_names }
-{
-    NamedFrame {
+    Ok(NamedFrame {
         frame,
         function: None,
         line: None,
         inlines: Vec::new(alloc),
-    }
+    })
 }
 
 // Returns a frame with what a symbol file says of an offset.
@@ -97,8 +88,7 @@ fn named_at<'l>(
     frame: CrashFrame,
     offset: u64,
 ) -> Result<NamedFrame<'l>, AllocError>
-    ensures { IfOk result (λ f. named_of f
-        ≡ with_names frame (names_at (symbols_of file.now) offset)) }
+    ensures { IfOk result (λ f. named_of f ≡ named_at (symbols_of file.now) frame offset) }
 {
     match function_at(file, offset) {
         Some(function) => named_by(alloc, file, function, frame, offset),
@@ -121,7 +111,7 @@ fn function_at<'l>(file: &'l SymbolFile<'l>, offset: u64) -> Option<&'l Function
 
 // Returns the name of the public symbol of an offset.
 fn public_name<'l>(file: &'l SymbolFile<'l>, offset: u64) -> Option<FrameFunction<'l>>
-    ensures { option_map name_value result ≡ name_at (symbols_of file.now) offset None }
+    ensures { option_map name_value result ≡ public_name (symbols_of file.now) offset }
 {
     let symbol = file.public_at(offset)?;
     Some(FrameFunction {
@@ -139,11 +129,10 @@ fn named_by<'l>(
     offset: u64,
 ) -> Result<NamedFrame<'l>, AllocError>
     ensures { IfOk result (λ f. named_of f
-        ≡ with_names frame (names_in (symbols_of file.now) (function_of function.now) offset)) }
+        ≡ named_by (symbols_of file.now) (function_of function.now) frame offset) }
 {
     let calls = calls_in(alloc, function, offset)?;
-    let innermost = line_at(file, function, offset);
-    let (line, inlines) = inlines_by(alloc, file, innermost, calls)?;
+    let (line, inlines) = inlines_by(alloc, file, line_at(file, function, offset), calls)?;
     let name = FrameFunction {
         name: function.name,
         offset: offset.saturating_sub(function.address),
@@ -166,35 +155,24 @@ fn line_at<'l>(
         ≡ line_at (symbols_of file.now) (function_of function.now) offset }
 {
     let record = function.line_at(offset)?;
-    Some(source_in(file, record.file, record.line))
-}
-
-// Returns the source line of the numbers of a file and a line.
-fn source_in<'l>(file: &'l SymbolFile<'l>, number: u32, line: u32) -> SourceLine<'l>
-    ensures { source_of result ≡ source_in (symbols_of file.now) number line }
-{
-    SourceLine {
-        file: file.file_name(number),
-        line,
-    }
+    Some(SourceLine {
+        file: file.file_name(record.file),
+        line: record.line,
+    })
 }
 
 // Returns the source line of a call put in place.
 fn source_of_call<'l>(file: &'l SymbolFile<'l>, call: &InlineCall) -> SourceLine<'l>
     ensures { source_of result ≡ source_of_call (symbols_of file.now) call.now }
 {
+    let file = match call.file {
+        Some(number) => file.file_name(number),
+        None => None,
+    };
     SourceLine {
-        file: file_of_call(file, call.file),
+        file,
         line: call.line,
     }
-}
-
-// Returns the name of the file of a call, if its number is known.
-fn file_of_call<'l>(file: &'l SymbolFile<'l>, number: Option<u32>) -> Option<LinuxOsStr<'l>>
-    ensures { option_map text_of result
-        ≡ option_and_then (file_name (symbols_of file.now).files) number }
-{
-    file.file_name(number?)
 }
 
 // Returns the calls put in place at an offset of a function, by their depths from 0 on.

@@ -4,8 +4,9 @@ ghost use Rattle.crash.specs.Frames.{crash_walk_of};
 ghost use Rattle.crash.specs.Threads.{thread_value};
 ghost use Rattle.crash_symbols.specs.Backtraces.{backtrace_of};
 ghost use Rattle.crash_symbols.specs.NameParts.{named_of};
+ghost use Rattle.crash_symbols.specs.Names.{unnamed};
 ghost use Rattle.crash_symbols.specs.Shown.{first_frames, shown_frame_of, shown_in, shown_of};
-ghost use Rattle.crash_symbols.specs.Shown.{symbolized_of, unnamed, unnamed_walk};
+ghost use Rattle.crash_symbols.specs.Shown.{symbolized_of, unnamed_walk};
 
 use crate::{Backtrace, FrameFunction, InlinedCall, NamedFrame, SourceLine, Symbolized};
 use crash::{CrashFrame, CrashThread, CrashWalk};

@@ -5,7 +5,7 @@ ghost use Rattle.crash.specs.Crash.{crash_of};
 ghost use Rattle.crash_symbols.specs.Backtraces.{backtrace_of, backtraces_of};
 ghost use Rattle.crash_symbols.specs.NameParts.{named_of};
 ghost use Rattle.crash_symbols.specs.Symbols.{known_of};
-ghost use Rattle.crash_symbols.specs.Wanted.{is_in, is_unwanted, lies_in, visits, wanted_in};
+ghost use Rattle.crash_symbols.specs.Wanted.{is_unwanted, lies_in, visits, wanted_in};
 
 use crate::{Backtrace, Backtraces, NamedFrame, SymbolState, Symbols};
 use crash::Crash;
@@ -77,20 +77,12 @@ fn visited(
 {
     let mut marks = vec![in alloc; false; count]?;
     for thread in threads {
-        mark_thread(marks.as_mut_slice(), thread);
+        if let Some(backtrace) = thread {
+            mark_frames(marks.as_mut_slice(), backtrace.frames.as_slice());
+            mark_frames(marks.as_mut_slice(), backtrace.candidates.as_slice());
+        }
     }
     Ok(marks)
-}
-
-// Marks the modules in which frames or candidates of a thread lie.
-fn mark_thread(marks: &mut [bool], thread: &Option<Backtrace<'_>>)
-    ensures { (k : ℕ) → k < length marks.old → slice_index_or marks.new k false
-        ≡ (slice_index_or marks.old k false || visits k (option_map backtrace_of thread.now)) }
-{
-    if let Some(backtrace) = thread {
-        mark_frames(marks, backtrace.frames.as_slice());
-        mark_frames(marks, backtrace.candidates.as_slice());
-    }
 }
 
 // Marks the modules in which frames lie.
@@ -99,18 +91,10 @@ fn mark_frames(marks: &mut [bool], frames: &[NamedFrame<'_>])
         ≡ (slice_index_or marks.old k false || list_any (lies_in k) (map named_of frames.now)) }
 {
     for named in frames {
-        mark_place(marks, named.frame.module);
-    }
-}
-
-// Marks the module of a place.
-fn mark_place(marks: &mut [bool], place: Option<(usize, u64)>)
-    ensures { (k : ℕ) → k < length marks.old → slice_index_or marks.new k false
-        ≡ (slice_index_or marks.old k false || is_in k place) }
-{
-    if let Some((index, _)) = place {
-        if index < marks.len() {
-            marks[index] = true;
+        if let Some((index, _)) = named.frame.module {
+            if index < marks.len() {
+                marks[index] = true;
+            }
         }
     }
 }

@@ -1,9 +1,9 @@
 -- Registers whose values are known: one after another, and by a test of what they are.
-use Rattle.std.proofs.Common.{◌≡◌, ◌∙◌, ◌<◌, ◌≤◌, ◌+◌, ◌++◌, ◌∷◌, [], ℕ, List, Option, Some, None, Bool, ap, get_or, length, map, refl, sym, take}
+use Rattle.std.proofs.Common.{◌≡◌, ◌∙◌, ◌<◌, ◌+◌, ◌++◌, ◌∷◌, [], ℕ, List, Option, Some, None, Bool, ap, get_or, length, map, refl, sym, take}
 use Rattle.std.specs.List.{cons_option, filter_map, find}
 use Rattle.std.specs.Option.{option_and_then, option_map}
 use Rattle.std.specs.Str.{bytes_eq}
-use Rattle.std.proofs.lemmas.List.{map-append, take_all, take_more}
+use Rattle.std.proofs.lemmas.List.{map-append, take_more}
 use Rattle.std.proofs.lemmas.List.Elements.{filter_map-append}
 use Rattle.breakpad_symbols.proofs.NumberedLemmas.{find-map}
 use Rattle.symbol_walk.specs.declared.registers.KnownRegister.{KnownRegister}
@@ -28,16 +28,6 @@ module _ (value : RegisterRow → Option ℕ) where
       step ∙ ap (λ l. l ++ cons_option (option_map (λ v. ((get_or rs i d).name.now, v)) o) []) done
       ∙ ap (λ p. filter_map one (map row_of (take i rs)) ++ cons_option (option_map (λ v. ((get_or rs i d).name.now, v)) p) []) given
       ∙ sym (filter_map-append one (map row_of (take i rs)) (row_of (get_or rs i d) ∷ [])) ∙ ap (filter_map one) (sym rows)
-
-  -- none yet
-  pub known_none : [] ≡ known_by value []
-  unfolding known_by
-  known_none = refl
-
-  -- all
-  pub known_all : (rs : List Register) (i : ℕ) (all : List KnownRegister) → length rs ≤ i → map known_of all ≡ known_by value (map row_of (take i rs))
-      → map known_of all ≡ known_by value (map row_of rs)
-  known_all rs i all past done = done ∙ ap (λ l. known_by value (map row_of l)) (take_all i rs past)
 
 -- ---- by a test
 

@@ -6,4 +6,3 @@ pub mod UpLemmas
 pub mod WithoutLemmas
 pub mod FewLemmas
 pub mod RestartLemmas
-pub mod PlainLemmas

@@ -2,19 +2,21 @@
 use Rattle.std.proofs.Common.{◌≡◌, ◌∙◌, ◌<◌, ◌≤◌, ◌+◌, ◌-◌, ◌*◌, ◌∷◌, [], ℕ, List, Option, Some, None, Bool, true, false, ap, length, refl, sym, subst}
 use Rattle.std.proofs.Common.{arith, ◌⊎◌, inl, inr}
 use Rattle.std.specs.Prelude.{cond, nat_le, nat_lt, is_some, ◌&&◌, if◌then◌else◌}
-use Rattle.std.specs.List.{cons_option, filter_map, find, range_with_len}
+use Rattle.std.specs.List.{All, cons_option, filter_map, find, range_with_len}
 use Rattle.std.specs.Option.{option_and_then, option_map, option_map_or, option_or}
 use Rattle.std.proofs.lemmas.Bool.Decides.{nat_tests}
+use Rattle.std.proofs.lemmas.List.Elements.{All-cons, All-contains, All-nil}
 use Rattle.minidump.specs.Below.MemoryLists.Unified.{UnifiedRegion}
 use Rattle.minidump.specs.Below.System.Cpu.{pointer_bytes}
 use Rattle.stack_walk.specs.declared.frame.FrameTrust.{FrameTrust}
-use Rattle.stack_walk.specs.declared.frame.FrameTrust.TheVariants.{Context, Cfi, FramePointer, Scan, Link}
+use Rattle.stack_walk.specs.declared.frame.FrameTrust.TheVariants.{Cfi, Scan}
 use Rattle.stack_walk.specs.declared.frame.StackFrame.{StackFrame}
 use Rattle.stack_walk.specs.Addresses.{address_after}
 use Rattle.stack_walk.specs.Frames.{StackValue, candidate_at, candidate_by, return_at, word_candidate, word_candidates}
 use Rattle.stack_walk.specs.Frames.{caller_of as pointer_caller}
-use Rattle.stack_walk.proofs.CallerLemmas.{base_of, climbs, end_of, failed, has_record, passed, step}
+use Rattle.stack_walk.proofs.CallerLemmas.{base_of, climbs, end_of, failed, has_record, mapped, passed, step}
 use Rattle.stack_walk.proofs.EvidenceLemmas.{by_return}
+use Rattle.breakpad_symbols.proofs.MemberLemmas.{both, found_passes}
 use Rattle.symbol_walk.specs.declared.rules.Return.{Return}
 use Rattle.symbol_walk.specs.Frames.{IsByRules}
 use Rattle.symbol_walk.specs.Registers.{known_by, known_frame_pointer, known_stack_pointer}
@@ -22,11 +24,6 @@ use Rattle.symbol_walk.specs.Rules.{caller_by, caller_value, caller_with, goes_o
 use Rattle.symbol_walk.specs.Scan.{is_called, next_words, restart_of, restarts}
 use Rattle.symbol_walk.specs.Unwinder.{FrameValue, UnwinderValue, pointer_frame}
 use Rattle.symbol_walk.specs.Walk.{caller_by_rules, caller_of, caller_without, end_by_rules}
-
--- both of two tests that were passed
-both : (a b : Bool) → (a && b) ≡ true → (a ≡ true) × (b ≡ true)
-both true b e = (refl, e)
-both false b e = cc
 
 -- ---- on the stack
 
@@ -64,34 +61,21 @@ pub record Reached (u : UnwinderValue) (f g : StackFrame) : Type 0 where
   pub above : is_above f g.stack_pointer ≡ true
   pub found : is_of_context g.trust ≡ false
 
-at_least : (t : FrameTrust) (a b : ℕ) → (if is_of_context t then nat_le a b else nat_lt a b) ≡ true → a ≤ b
-at_least Context a b e = grind (arith, nat_tests, e)
-at_least Cfi a b e = grind (arith, nat_tests, e)
-at_least FramePointer a b e = grind (arith, nat_tests, e)
-at_least Scan a b e = grind (arith, nat_tests, e)
-at_least Link a b e = grind (arith, nat_tests, e)
+at_least : (first : Bool) (a b : ℕ) → (if first then nat_le a b else nat_lt a b) ≡ true → a ≤ b
+at_least true a b e = grind (arith, nat_tests, e)
+at_least false a b e = grind (arith, nat_tests, e)
 
-more_than : (t : FrameTrust) (a b : ℕ) → is_of_context t ≡ false → (if is_of_context t then nat_le a b else nat_lt a b) ≡ true → a < b
-more_than Context a b other e = cc
-more_than Cfi a b other e = grind (arith, nat_tests, e)
-more_than FramePointer a b other e = grind (arith, nat_tests, e)
-more_than Scan a b other e = grind (arith, nat_tests, e)
-more_than Link a b other e = grind (arith, nat_tests, e)
+more_than : (first : Bool) (a b : ℕ) → first ≡ false → (if first then nat_le a b else nat_lt a b) ≡ true → a < b
+more_than true a b other e = cc
+more_than false a b other e = grind (arith, nat_tests, e)
 
-higher : (t : FrameTrust) (a b : ℕ) → a < b → (if is_of_context t then nat_le a b else nat_lt a b) ≡ true
-higher Context a b lt = grind (arith, nat_tests, lt)
-higher Cfi a b lt = grind (arith, nat_tests, lt)
-higher FramePointer a b lt = grind (arith, nat_tests, lt)
-higher Scan a b lt = grind (arith, nat_tests, lt)
-higher Link a b lt = grind (arith, nat_tests, lt)
-
--- the caller stands at the stack pointer of its frame or above it
-pub not_below : (u : UnwinderValue) (f g : StackFrame) → Reached u f g → f.stack_pointer ≤ g.stack_pointer
-not_below u f g r = at_least f.trust f.stack_pointer g.stack_pointer r.above
+higher : (first : Bool) (a b : ℕ) → a < b → (if first then nat_le a b else nat_lt a b) ≡ true
+higher true a b lt = grind (arith, nat_tests, lt)
+higher false a b lt = grind (arith, nat_tests, lt)
 
 -- the caller of a caller stands above that
 pub strictly : (u : UnwinderValue) (f g : StackFrame) → is_of_context f.trust ≡ false → Reached u f g → f.stack_pointer < g.stack_pointer
-strictly u f g other r = more_than f.trust f.stack_pointer g.stack_pointer other r.above
+strictly u f g other r = more_than (is_of_context f.trust) f.stack_pointer g.stack_pointer other r.above
 
 -- where the stack of a frame goes on
 goes : (s : StackValue) (f : StackFrame) (a : ℕ) → goes_on s f a ≡ true → (is_on_stack s a ≡ true) × (is_above f a ≡ true)
@@ -170,33 +154,19 @@ by_pointer u f g e =
     let up = climbs u.stack f g e in
     let by = (has_record u.stack f g e).trust in
     let lt : f.stack_pointer < g.stack_pointer = omega (arith, up.0) in (
-      record { on = region_has u.stack.region g.stack_pointer up.1 up.2; above = higher f.trust f.stack_pointer g.stack_pointer lt; found = rw by refl },
+      record { on = region_has u.stack.region g.stack_pointer up.1 up.2; above = higher (is_of_context f.trust) f.stack_pointer g.stack_pointer lt; found = rw by refl },
       rw by refl,
     )
 
 -- ---- by a candidate
 
-abbrev Each : {X : Type 0} → (X → Type 0) → List X → Type 0
-Each P [] = Unit {0}
-Each P (x ∷ xs) = P x × Each P xs
-
-each_more : {X : Type 0} (P : X → Type 0) (o : Option X) (xs : List X) → ((x : X) → o ≡ Some x → P x) → Each P xs → Each P (cons_option o xs)
+each_more : {X : Type 0} (P : X → Type 0) (o : Option X) (xs : List X) → ((x : X) → o ≡ Some x → P x) → All P xs → All P (cons_option o xs)
 each_more P None xs gives rest = rest
-each_more P (Some x) xs gives rest = (gives x refl, rest)
+each_more P (Some x) xs gives rest = All-cons P x xs (gives x refl) rest
 
-each_given : {X Y : Type 0} (P : Y → Type 0) (h : X → Option Y) → ((x : X) (y : Y) → h x ≡ Some y → P y) → (xs : List X) → Each P (filter_map h xs)
-each_given P h gives [] = tt
+each_given : {X Y : Type 0} (P : Y → Type 0) (h : X → Option Y) → ((x : X) (y : Y) → h x ≡ Some y → P y) → (xs : List X) → All P (filter_map h xs)
+each_given P h gives [] = All-nil P
 each_given P h gives (x ∷ xs) = each_more P (h x) (filter_map h xs) (gives x) (each_given P h gives xs)
-
--- what is found has passed the test, and is one of the list
-found_passes : {X : Type 0} (P : X → Type 0) (test : X → Bool) (xs : List X) (y : X) → Each P xs → find test xs ≡ Some y → (test y ≡ true) × P y
-found_passes P test [] y each e = cc
-found_passes P test (x ∷ xs) y each e = by (test x) refl e (found_passes P test xs y each.1)
-  where
-    by : (b : Bool) → test x ≡ b → cond b (Some x) (find test xs) ≡ Some y → (find test xs ≡ Some y → (test y ≡ true) × P y)
-        → (test y ≡ true) × P y
-    by true is e rest = let same : x ≡ y = some_is x y e in (rw (← same) is, rw (← same) each.0)
-    by false is e rest = rest e
 
 abbrev IsScanned : StackFrame → Type 0
 IsScanned f = f.trust ≡ Scan
@@ -210,7 +180,7 @@ of_number s number f e =
     let returned = step (candidate_by s after.0) (return_at s address) f after.2 in
     sym (ap (λ (x : StackFrame). x.trust) (by_return s after.0 returned.0 f returned.2))
 
-each_scanned : (s : StackValue) (words : ℕ × ℕ) → Each IsScanned (word_candidates s words)
+each_scanned : (s : StackValue) (words : ℕ × ℕ) → All IsScanned (word_candidates s words)
 each_scanned s words = each_given IsScanned (word_candidate s) (of_number s) (range_with_len words.0 words.1)
 
 restarts_there : (u : UnwinderValue) (f g : StackFrame) → restarts u f g ≡ true → goes_on u.stack f g.stack_pointer ≡ true
@@ -222,9 +192,9 @@ unfolding restart_of
 by_scan u f g e =
     let size = step (λ size. find (restarts u f) (word_candidates u.stack (next_words f size))) (pointer_bytes u.stack.width) g e in
     let words = next_words f size.0 in
-    let is = found_passes IsScanned (restarts u f) (word_candidates u.stack words) g (each_scanned u.stack words) size.2 in
-    let there = goes u.stack f g.stack_pointer (restarts_there u f g is.0) in
-    let by = is.1 in
+    let is = found_passes (restarts u f) (word_candidates u.stack words) g size.2 in
+    let there = goes u.stack f g.stack_pointer (restarts_there u f g is.1) in
+    let by = All-contains IsScanned (word_candidates u.stack words) g (each_scanned u.stack words) is.0 in
     (record { on = there.0; above = there.1; found = rw by refl }, rw by refl)
 
 -- ---- any of these
@@ -234,14 +204,10 @@ pub either : {A : Type 0} (o p : Option A) (y : A) → option_or o p ≡ Some y 
 either None p y e = inr e
 either (Some x) p y e = inl e
 
-pub mapped : {A B : Type 0} (f : A → B) (o : Option A) (y : B) → option_map f o ≡ Some y → (x : A) × (o ≡ Some x) × (f x ≡ y)
-mapped f None y e = cc
-mapped f (Some x) y e = (x, refl, (let same : Some (f x) ≡ Some y = e in cc))
-
 without_rules : (u : UnwinderValue) (f g : FrameValue) → caller_without u f ≡ Some g → Reached u f.frame g.frame × (is_cfi g.frame.trust ≡ false)
 without_rules u f g e =
     let found = mapped (pointer_frame u) (option_or (pointer_caller u.stack f.frame) (restart_of u f.frame)) g e in
-    let is : found.0 ≡ g.frame = ap (λ (x : FrameValue). x.frame) found.2 in
+    let is : found.0 ≡ g.frame = sym (ap (λ (x : FrameValue). x.frame) found.2) in
     subst (λ (h : StackFrame). Reached u f.frame h × (is_cfi h.trust ≡ false)) is (by found.0 (either (pointer_caller u.stack f.frame) (restart_of u f.frame) found.0 found.1))
   where
     by : (h : StackFrame) → (pointer_caller u.stack f.frame ≡ Some h) ⊎ (restart_of u f.frame ≡ Some h) → Reached u f.frame h × (is_cfi h.trust ≡ false)
@@ -277,13 +243,9 @@ is_by_rules u f g e by_cfi = by (caller_by_any u f g e)
 abbrev pub left : UnwinderValue → FrameValue → ℕ
 left u f = (end_of u.stack + 1 - f.frame.stack_pointer) + cond (is_of_context f.frame.trust) 1 0
 
-shorter : (t : FrameTrust) (a b end : ℕ) → a ≤ b → b ≤ end → (is_of_context t ≡ false → a < b)
-    → end + 1 - b < (end + 1 - a) + cond (is_of_context t) 1 0
-shorter Context a b end low high more = omega (arith, low, high)
-shorter Cfi a b end low high more = omega (arith, more refl, high)
-shorter FramePointer a b end low high more = omega (arith, more refl, high)
-shorter Scan a b end low high more = omega (arith, more refl, high)
-shorter Link a b end low high more = omega (arith, more refl, high)
+shorter : (first : Bool) (a b end : ℕ) → a ≤ b → b ≤ end → (first ≡ false → a < b) → end + 1 - b < (end + 1 - a) + cond first 1 0
+shorter true a b end low high more = omega (arith, low, high)
+shorter false a b end low high more = omega (arith, more refl, high)
 
 -- it is less after the caller
 pub falls : (u : UnwinderValue) (f g : FrameValue) → caller_of u f ≡ Some g → left u g < left u f
@@ -291,5 +253,6 @@ falls u f g e =
     let r = reached u f g e in
     let high = (within_stack u.stack g.frame.stack_pointer r.on).1 in
     rw r.found
-    (let less = shorter f.frame.trust f.frame.stack_pointer g.frame.stack_pointer (end_of u.stack) (not_below u f.frame g.frame r) high
+    (let low = at_least (is_of_context f.frame.trust) f.frame.stack_pointer g.frame.stack_pointer r.above in
+    let less = shorter (is_of_context f.frame.trust) f.frame.stack_pointer g.frame.stack_pointer (end_of u.stack) low high
     (λ other. strictly u f.frame g.frame other r) in omega (arith, less))

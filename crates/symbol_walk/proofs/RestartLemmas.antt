@@ -32,16 +32,6 @@ skips u f (Some c) rest e = by (restarts u f c) e
     by true e = cc
     by false e = refl
 
-meets : (u : UnwinderValue) (f : StackFrame) (o : Option StackFrame) (g : StackFrame) (rest : List StackFrame)
-    → option_and_then (λ candidate. if restarts u f candidate then Some candidate else None) o ≡ Some g
-    → find (restarts u f) (cons_option o rest) ≡ Some g
-meets u f None g rest e = cc
-meets u f (Some c) g rest e = by (restarts u f c) e
-  where
-    by : (b : Bool) → (if b then Some c else None) ≡ Some g → cond b (Some c) (find (restarts u f) rest) ≡ Some g
-    by true e = e
-    by false e = cc
-
 -- the walk doesn't go on from a word
 pub found_later : (u : UnwinderValue) (f : StackFrame) (first i n : ℕ) → i < n → restart_at u f (first + i) ≡ None
     → found_from u f (first + i) (n - i) ≡ found_from u f (first + (i + 1)) (n - (i + 1))
@@ -49,21 +39,9 @@ found_later u f first i n within none =
     next u f first i n within
     ∙ skips u f (word_candidate u.stack (first + i)) (word_candidates u.stack (first + (i + 1), n - (i + 1))) none
 
--- or it does
-pub found_here : (u : UnwinderValue) (f g : StackFrame) (first i n : ℕ) → i < n → restart_at u f (first + i) ≡ Some g
-    → found_from u f (first + i) (n - i) ≡ Some g
-found_here u f g first i n within some =
-    next u f first i n within
-    ∙ meets u f (word_candidate u.stack (first + i)) g (word_candidates u.stack (first + (i + 1), n - (i + 1))) some
-
 -- all words
 pub found_first : (u : UnwinderValue) (f : StackFrame) (first n : ℕ) → found_from u f (first + 0) (n - 0) ≡ found_from u f first n
 found_first u f first n =
     let start : first + 0 ≡ first = omega arith in
     let all : n - 0 ≡ n = omega arith in
     ap (λ a. found_from u f a (n - 0)) start ∙ ap (λ m. found_from u f first m) all
-
--- none
-pub found_none : (u : UnwinderValue) (f : StackFrame) (a i n : ℕ) → i ≡ n → found_from u f a (n - i) ≡ None
-found_none u f a i n past =
-    let none : n - i ≡ 0 = omega (arith, past) in ap (λ m. found_from u f a m) none

@@ -116,9 +116,6 @@ pub record Walking (u : UnwinderValue) (first last : FrameValue) (done : List Fr
   pub whole : (rest : List FrameValue) (end : FrameValue) → AreCallers (caller_of u) last rest end
       → (callers : List FrameValue) × (done ++ (last ∷ rest) ≡ first ∷ callers) × AreCallers (caller_of u) first callers end
 
-pub walking_one : (u : UnwinderValue) (first : FrameValue) (done : List FrameValue) → done ≡ [] → Walking u first first done
-walking_one u first done is = record { whole = λ rest end are. (rest, ap (λ d. d ++ (first ∷ rest)) is, are) }
-
 pub walking_more : (u : UnwinderValue) (first last next : FrameValue) (done more : List FrameValue) → more ≡ done ++ (last ∷ [])
     → caller_of u last ≡ Some next → Walking u first last done → Walking u first next more
 walking_more u first last next done more is there w = record {

@@ -1,6 +1,6 @@
 -- Without symbols a walk is that by frame pointers.
 use Rattle.std.proofs.Common.{◌≡◌, ◌∙◌, ℕ, List, [], ◌∷◌, map, Bool, true, false, Option, Some, None, refl, ap, sym}
-use Rattle.std.specs.Prelude.{◌&&◌, cond, is_some, if◌then◌else◌, unwrap_or}
+use Rattle.std.specs.Prelude.{◌&&◌, is_some, if◌then◌else◌, unwrap_or}
 use Rattle.std.specs.List.{find}
 use Rattle.std.specs.Option.{option_and_then, option_map, option_map_or, option_or}
 use Rattle.minidump.specs.declared.MinidumpContext.{MinidumpContext}
@@ -14,8 +14,11 @@ use Rattle.stack_walk.specs.Lookups.{lookup_address, module_place}
 use Rattle.stack_walk.specs.Walk.{callers_in as pointer_callers}
 use Rattle.stack_walk.specs.Walk.{walk_in}
 use Rattle.stack_walk.specs.WalkEnd.{walk_end}
+use Rattle.stack_walk.proofs.CallerLemmas.{mapped}
 use Rattle.stack_walk.proofs.UpLemmas.{walk_is}
 use Rattle.breakpad_symbols.specs.SymbolFile.{SymbolsValue}
+use Rattle.breakpad_symbols.proofs.MemberLemmas.{and_false, find_none}
+use Rattle.breakpad_symbols.proofs.RuleLemmas.{or_none}
 use Rattle.symbol_walk.specs.declared.walk.SymbolWalkEnd.{SymbolWalkEnd}
 use Rattle.symbol_walk.specs.declared.walk.SymbolWalkEnd.TheVariants.{Walk}
 use Rattle.symbol_walk.specs.Frames.{HaveNone}
@@ -25,7 +28,6 @@ use Rattle.symbol_walk.specs.Scan.{in_function, is_called, next_words, restart_o
 use Rattle.symbol_walk.specs.Symbols.{has_function, symbols_at, symbols_of_module}
 use Rattle.symbol_walk.specs.Unwinder.{FrameValue, UnwinderValue, first_frame, pointer_frame}
 use Rattle.symbol_walk.specs.Walk.{caller_by_rules, caller_of, caller_without, callers_in, end_by_rules, symbol_walk_in}
-use Rattle.symbol_walk.proofs.ReachLemmas.{mapped}
 use Rattle.symbol_walk.proofs.UpLemmas.{are_callers}
 
 abbrev placed : ℕ → SymbolsValue → SymbolsValue × ℕ
@@ -77,19 +79,11 @@ not_called u candidate none = by (lookup_address u.stack.cpu candidate)
     by None = refl
     by (Some address) = no_function u address none
 
-last_fails : (a : Bool) → (a && false) ≡ false
-last_fails true = refl
-last_fails false = refl
-
 no_restart : (u : UnwinderValue) (f candidate : StackFrame) → HaveNone u.symbols → restarts u f candidate ≡ false
 unfolding restarts
 no_restart u f candidate none =
     ap (λ (b : Bool). goes_on u.stack f candidate.stack_pointer && b) (not_called u candidate none)
-    ∙ last_fails (goes_on u.stack f candidate.stack_pointer)
-
-none_passes : {X : Type 0} (test : X → Bool) (xs : List X) → ((x : X) → test x ≡ false) → find test xs ≡ None
-none_passes test [] fails = refl
-none_passes test (x ∷ xs) fails = ap (λ (b : Bool). cond b (Some x) (find test xs)) (fails x) ∙ none_passes test xs fails
+    ∙ and_false (goes_on u.stack f candidate.stack_pointer)
 
 none_found : (u : UnwinderValue) (f : StackFrame) → HaveNone u.symbols → restart_of u f ≡ None
 unfolding restart_of
@@ -97,11 +91,7 @@ none_found u f none = by (pointer_bytes u.stack.width)
   where
     by : (o : Option ℕ) → option_and_then (λ size. find (restarts u f) (word_candidates u.stack (next_words f size))) o ≡ None
     by None = refl
-    by (Some size) = none_passes (restarts u f) (word_candidates u.stack (next_words f size)) (λ candidate. no_restart u f candidate none)
-
-or_none : {A : Type 0} (o : Option A) → option_or o None ≡ o
-or_none None = refl
-or_none (Some x) = refl
+    by (Some size) = find_none (restarts u f) (word_candidates u.stack (next_words f size)) (λ candidate there. no_restart u f candidate none)
 
 -- the caller is that by the frame pointer
 pub caller_is : (u : UnwinderValue) (f : FrameValue) → HaveNone u.symbols → caller_of u f ≡ option_map (pointer_frame u) (pointer_caller u.stack f.frame)
@@ -122,7 +112,7 @@ as_pointers u f [] last none are =
     (not_mapped (pointer_frame u) (pointer_caller u.stack f.frame) (sym (caller_is u f none) ∙ are.0), ap (λ (g : FrameValue). g.frame) are.1)
 as_pointers u f (g ∷ gs) last none are =
     let found = mapped (pointer_frame u) (pointer_caller u.stack f.frame) g (sym (caller_is u f none) ∙ are.0) in
-    let is : found.0 ≡ g.frame = ap (λ (x : FrameValue). x.frame) found.2 in
+    let is : found.0 ≡ g.frame = sym (ap (λ (x : FrameValue). x.frame) found.2) in
     (found.1 ∙ ap Some is, as_pointers u g gs last none are.1)
 
 abbrev frames_of : List FrameValue → List StackFrame

@@ -97,14 +97,11 @@ returns r = option_and_then (λ frame. option_map
     (caller_register_at r.state r.cfi r.offset frame (codes ".ra")))
     (frame_address_at r.state r.cfi r.offset)
 
--- whether they return to 0
-abbrev pub returns_to_zero : Option Return → Bool
-returns_to_zero back = option_map_or (λ b. b.return_address == 0) back false
-
 -- why the walk ends by rules: they have none for the return address, or it is 0
 abbrev pub end_by : RulesValue → Option SymbolWalkEnd
 end_by r = if is_none (rule_at r.cfi (codes ".ra") r.offset) then Some NoReturnRule
-    else (if returns_to_zero (returns r) then Some ZeroReturnAddress else None)
+    else (if option_map_or (λ back. back.return_address == 0) (returns r) false
+    then Some ZeroReturnAddress else None)
 
 -- ---- the registers of the caller
 
@@ -117,20 +114,17 @@ unruled_value known back name Frame = known_value known name
 unruled_value known back name Saved = known_value known name
 unruled_value known back name Scratch = None
 
--- the value of a register by its rule, or else by the calling convention
-abbrev pub ruled_value : RulesValue → Return → RegisterRow → Option ℕ
-ruled_value r back row = option_map_or (value_of r.state (Some back.frame_address))
-    (rule_at r.cfi row.label r.offset) (unruled_value r.known back row.name row.role)
-
 -- whether a register is the instruction pointer
 abbrev pub is_instruction_pointer : RegisterRole → Bool
 is_instruction_pointer InstructionPointer = true
 is_instruction_pointer _ = false
 
--- the value of a register in the caller: the instruction pointer is the return address
+-- the value of a register in the caller: the instruction pointer is the return address, and any other
+-- has the value by its rule, or else by the calling convention
 abbrev pub caller_value : RulesValue → Return → RegisterRow → Option ℕ
 caller_value r back row = if is_instruction_pointer row.role then Some back.return_address
-    else ruled_value r back row
+    else option_map_or (value_of r.state (Some back.frame_address))
+    (rule_at r.cfi row.label r.offset) (unruled_value r.known back row.name row.role)
 
 -- ---- the caller
 

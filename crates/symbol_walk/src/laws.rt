@@ -28,6 +28,7 @@ pub fn without_symbols_a_walk_is_by_frame_pointers()
 
 /// A frame has exactly one list of callers: each is the caller of the one before it, and the last has
 /// none.
+#[tactic(auto, using(crate::proofs::UpLemmas::callers_by))]
 pub fn one_list_of_callers()
     ensures { (u : UnwinderValue) (f : FrameValue) (callers : List FrameValue) (last : FrameValue)
         → AreCallers (caller_of u) f callers last
@@ -36,6 +37,7 @@ pub fn one_list_of_callers()
 
 /// A frame by rules has the instruction and the registers that the rules of its callee give by the
 /// registers of that.
+#[tactic(auto, using(crate::proofs::ReachLemmas::is_by_rules))]
 pub fn rules_give_the_registers()
     ensures { (u : UnwinderValue) (f g : FrameValue) → caller_of u f ≡ Some g → g.frame.trust ≡ Cfi
         → IsByRules u f g }

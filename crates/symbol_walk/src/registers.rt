@@ -166,6 +166,7 @@ pub(crate) trait RegisterValues {
 }
 
 // Returns the registers of a table that have a value.
+#[tactic(auto, unfolding(crate::specs::Registers::known_by))]
 pub(crate) fn known_by<V: RegisterValues>(
     alloc: Global,
     by: &V,

@@ -4,10 +4,8 @@ ghost use Rattle.std.specs.Option.{option_map};
 ghost use Rattle.stack_walk.specs.Frames.{stack_of};
 ghost use Rattle.symbol_walk.specs.Registers.{known_by, known_of, row_of};
 ghost use Rattle.symbol_walk.specs.Rules.{caller_by, caller_value, caller_with, end_by, goes_on};
-ghost use Rattle.symbol_walk.specs.Rules.{is_above, is_on_stack, ruled_value, rules_at, rules_by};
-ghost use Rattle.symbol_walk.specs.Rules.{returns, returns_to_zero, rules_of, unruled_value};
+ghost use Rattle.symbol_walk.specs.Rules.{is_above, returns, rules_at, rules_of, unruled_value};
 ghost use Rattle.symbol_walk.specs.Unwinder.{frame_of, unwinder_of};
-ghost use Rattle.breakpad_symbols.specs.AddressWidth.{bits_of};
 
 use crate::registers::{
     KnownRegister, Register, RegisterRole, known_frame_pointer, known_stack_pointer, known_value,
@@ -16,7 +14,7 @@ use crate::registers::{
 use crate::state::{FrameState, address_width};
 use crate::unwinder::{Unwinder, cfi_at};
 use crate::{KnownFrame, SymbolWalkEnd};
-use breakpad_symbols::{AddressWidth, CfiRecord, evaluate};
+use breakpad_symbols::{CfiRecord, evaluate};
 use stack_walk::{FrameTrust, Stack, StackFrame};
 use std::alloc::{AllocError, Global};
 
@@ -48,21 +46,6 @@ impl<'w, 'l, 'a, 's> Unwinder<'w, 'l, 'a, 's> {
     {
         let width = address_width(self.stack.width)?;
         let address = known.frame.lookup_address(self.stack.cpu)?;
-        self.rules_by(known, width, address)
-    }
-
-    // Returns those that the symbols of the module have for an address.
-    fn rules_by<'f>(
-        &self,
-        known: &'f KnownFrame,
-        width: AddressWidth,
-        address: u64,
-    ) -> Option<Rules<'f, 'l, 'a, 's>>
-    where
-        'w: 'f,
-        ensures { option_map rules_of result
-            ≡ rules_by (unwinder_of self.now) (frame_of known.now) (bits_of width) address }
-    {
         let (symbols, offset) = self.symbols_at(address)?;
         let cfi = cfi_at(symbols, offset)?;
         let state = FrameState {
@@ -104,11 +87,9 @@ impl Rules<'_, '_, '_, '_> {
         if self.cfi.rule_at(b".ra", self.offset).is_none() {
             return Ok(Some(SymbolWalkEnd::NoReturnRule));
         }
-        let back = self.returns(alloc)?;
-        if returns_to_zero(back) {
-            Ok(Some(SymbolWalkEnd::ZeroReturnAddress))
-        } else {
-            Ok(None)
+        match self.returns(alloc)? {
+            Some(back) if back.return_address == 0 => Ok(Some(SymbolWalkEnd::ZeroReturnAddress)),
+            _ => Ok(None),
         }
     }
 
@@ -128,22 +109,9 @@ impl Rules<'_, '_, '_, '_> {
         let registers = self.caller_registers(alloc, back, by.registers)?;
         Ok(by.caller_with(frame, back, registers))
     }
-}
 
-// Tells whether rules return to 0.
-fn returns_to_zero(back: Option<Return>) -> bool
-    ensures { result ≡ returns_to_zero back }
-{
-    match back {
-        Some(back) => back.return_address == 0,
-        None => false,
-    }
-}
-
-// ---- the registers of the caller
-
-impl Rules<'_, '_, '_, '_> {
     // Returns the registers of a table that have a value in the caller.
+    #[tactic(auto, unfolding(crate::specs::Registers::known_by))]
     fn caller_registers(
         &self,
         alloc: Global,
@@ -161,7 +129,8 @@ impl Rules<'_, '_, '_, '_> {
         Ok(known)
     }
 
-    // Returns the value of a register in the caller.
+    // Returns the value of a register in the caller: the return address, or that by its rule, or else
+    // by the calling convention.
     fn caller_value(
         &self,
         alloc: Global,
@@ -174,19 +143,6 @@ impl Rules<'_, '_, '_, '_> {
         if matches!(register.role, RegisterRole::InstructionPointer) {
             return Ok(Some(back.return_address));
         }
-        self.ruled_value(alloc, back, register)
-    }
-
-    // Returns the value of a register by its rule, or else by the calling convention.
-    fn ruled_value(
-        &self,
-        alloc: Global,
-        back: Return,
-        register: &Register,
-    ) -> Result<Option<u64>, AllocError>
-        ensures { IfOk result
-            (λ v. v ≡ ruled_value (rules_of self.now) back (row_of register.now)) }
-    {
         match self.cfi.rule_at(register.label.as_bytes(), self.offset) {
             Some(rule) => evaluate(alloc, rule, &self.state, Some(back.frame_address)),
             None => Ok(unruled_value(self.state.known, back, register)),
@@ -235,25 +191,17 @@ impl Unwinder<'_, '_, '_, '_> {
     }
 }
 
-// Tells whether the stack of a frame goes on at an address, as the stack pointer of its caller.
+// Tells whether the stack of a frame goes on at an address, as the stack pointer of its caller: the
+// address lies on the stack, or is the one after it, and is above the frame.
 #[tactic(auto, unfolding(crate::specs::Rules::goes_on))]
 pub(crate) fn goes_on(stack: &Stack<'_, '_>, frame: &StackFrame, address: u64) -> bool
     ensures { result ≡ goes_on (stack_of stack.now) frame.now address }
 {
-    is_on_stack(stack, address) && is_above(frame, address)
-}
-
-// Tells whether an address lies on the stack, or is the one after it.
-fn is_on_stack(stack: &Stack<'_, '_>, address: u64) -> bool
-    ensures { result ≡ is_on_stack (stack_of stack.now) address }
-{
-    match stack.memory {
-        Some(memory) => {
-            let base = memory.base_address();
-            base <= address && address - base <= memory.bytes().len() as u64
-        }
-        None => false,
-    }
+    let Some(memory) = stack.memory else {
+        return false;
+    };
+    let base = memory.base_address();
+    base <= address && address - base <= memory.bytes().len() as u64 && is_above(frame, address)
 }
 
 // Tells whether an address is above the stack pointer of a frame, or for a context's frame at it.

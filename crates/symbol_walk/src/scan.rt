@@ -8,7 +8,7 @@ ghost use Rattle.symbol_walk.specs.Scan.{scanned_words};
 ghost use Rattle.symbol_walk.specs.Unwinder.{unwinder_of};
 
 use crate::rules::goes_on;
-use crate::unwinder::Unwinder;
+use crate::unwinder::{Unwinder, has_function};
 use minidump::system_info::PointerWidth;
 use stack_walk::{FrameTrust, Stack, StackFrame};
 
@@ -40,31 +40,28 @@ impl Unwinder<'_, '_, '_, '_> {
 
     // Returns the candidate of the aligned word that so many words come before, if the walk goes on
     // from it.
+    #[tactic(auto, unfolding(crate::specs::Scan::restarts))]
     fn restart_at(&self, frame: &StackFrame, first: u64, index: u64) -> Option<StackFrame>
         ensures { result ≡ restart_at (unwinder_of self.now) frame.now (first + index) }
     {
         let candidate = word_candidate(self.stack, first, index)?;
-        if self.restarts(frame, &candidate) {
+        if goes_on(self.stack, frame, candidate.stack_pointer) && self.is_called(&candidate) {
             Some(candidate)
         } else {
             None
         }
     }
 
-    // Tells whether the walk goes on from a candidate after a frame.
-    #[tactic(auto, unfolding(crate::specs::Scan::restarts))]
-    fn restarts(&self, frame: &StackFrame, candidate: &StackFrame) -> bool
-        ensures { result ≡ restarts (unwinder_of self.now) frame.now candidate.now }
-    {
-        goes_on(self.stack, frame, candidate.stack_pointer) && self.is_called(candidate)
-    }
-
     // Tells whether the call of a candidate lies in a function of the symbols.
+    #[tactic(auto, unfolding(crate::specs::Scan::in_function))]
     fn is_called(&self, candidate: &StackFrame) -> bool
         ensures { result ≡ is_called (unwinder_of self.now) candidate.now }
     {
-        match candidate.lookup_address(self.stack.cpu) {
-            Some(address) => self.in_function(address),
+        let Some(address) = candidate.lookup_address(self.stack.cpu) else {
+            return false;
+        };
+        match self.symbols_at(address) {
+            Some((symbols, offset)) => has_function(symbols, offset),
             None => false,
         }
     }

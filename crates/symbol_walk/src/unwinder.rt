@@ -1,11 +1,9 @@
 //! What the frames of a thread are found by.
-ghost use Rattle.std.specs.Prelude.{◌≡◌, map};
+ghost use Rattle.std.specs.Prelude.{◌≡◌};
 ghost use Rattle.std.specs.Option.{option_copied, option_map};
 ghost use Rattle.breakpad_symbols.specs.Cfi.{cfi_of};
 ghost use Rattle.breakpad_symbols.specs.SymbolFile.{symbols_of};
-ghost use Rattle.symbol_walk.specs.Scan.{in_function};
 ghost use Rattle.symbol_walk.specs.Symbols.{cfi_at, has_function, symbols_at};
-ghost use Rattle.symbol_walk.specs.Symbols.{symbols_of_module};
 ghost use Rattle.symbol_walk.specs.Unwinder.{unwinder_of};
 
 use crate::registers::Register;
@@ -30,31 +28,9 @@ impl<'w, 's> Unwinder<'w, '_, '_, 's> {
             (unwinder_of self.now).stack.modules (unwinder_of self.now).symbols address }
     {
         let (index, offset) = module_place(self.stack.modules, address)?;
-        let symbols = symbols_of_module(self.symbols, index)?;
+        let symbols = (*self.symbols.get(index)?)?;
         Some((symbols, offset))
     }
-
-    // Tells whether a function of the symbols has an address.
-    #[tactic(auto, unfolding(crate::specs::Scan::in_function))]
-    pub(crate) fn in_function(&self, address: u64) -> bool
-        ensures { result ≡ in_function (unwinder_of self.now) address }
-    {
-        match self.symbols_at(address) {
-            Some((symbols, offset)) => has_function(symbols, offset),
-            None => false,
-        }
-    }
-}
-
-// Returns the symbols of the module with an index.
-fn symbols_of_module<'w, 's>(
-    symbols: &'w [Option<&'w SymbolFile<'s>>],
-    index: usize,
-) -> Option<&'w SymbolFile<'s>>
-    ensures { option_map symbols_of (option_copied result) ≡ symbols_of_module
-        (map (option_map (λ s. symbols_of s.now)) symbols.now) index }
-{
-    *symbols.get(index)?
 }
 
 // Returns the kept rules of an offset.
@@ -65,7 +41,7 @@ pub(crate) fn cfi_at<'w, 's>(symbols: &'w SymbolFile<'s>, offset: u64) -> Option
 }
 
 // Tells whether a kept function has an offset.
-fn has_function(symbols: &SymbolFile<'_>, offset: u64) -> bool
+pub(crate) fn has_function(symbols: &SymbolFile<'_>, offset: u64) -> bool
     ensures { result ≡ has_function (symbols_of symbols.now) offset }
 {
     symbols.function_at(offset, &mut Steps::new()).is_some()

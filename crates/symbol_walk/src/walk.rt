@@ -5,9 +5,9 @@ ghost use Rattle.stack_walk.specs.Climb.{outermost};
 ghost use Rattle.stack_walk.specs.Frames.{stack_of};
 ghost use Rattle.breakpad_symbols.specs.SymbolFile.{symbols_of};
 ghost use Rattle.symbol_walk.specs.Unwinder.{frame_of, unwinder_of};
-ghost use Rattle.symbol_walk.specs.Walk.{caller_by_rules, caller_of, caller_without, callers_in};
-ghost use Rattle.symbol_walk.specs.Walk.{end_by_rules, end_of, plain_frames, symbol_walk_in};
-ghost use Rattle.symbol_walk.specs.Walk.{symbol_walk_of, walk_from};
+ghost use Rattle.symbol_walk.specs.Walk.{caller_of, caller_without, callers_in, end_by_rules};
+ghost use Rattle.symbol_walk.specs.Walk.{end_of, plain_frames, symbol_walk_in, symbol_walk_of};
+ghost use Rattle.symbol_walk.specs.Walk.{walk_from};
 
 use crate::KnownFrame;
 use crate::registers::register_table;
@@ -113,8 +113,8 @@ impl Unwinder<'_, '_, '_, '_> {
         Ok((frames, last))
     }
 
-    // Returns the caller of a frame.
-    #[tactic(auto, unfolding(crate::specs::Walk::caller_of))]
+    // Returns the caller of a frame: by its rules, unless they end the walk, or else without them.
+    #[tactic(auto, unfolding(crate::specs::Walk::caller_of, crate::specs::Walk::caller_by_rules))]
     fn caller_of(&self, alloc: Global, known: &KnownFrame) -> Result<Option<KnownFrame>, AllocError>
         ensures { IfOk result (λ caller. option_map frame_of caller
             ≡ caller_of (unwinder_of self.now) (frame_of known.now)) }
@@ -122,27 +122,13 @@ impl Unwinder<'_, '_, '_, '_> {
         if self.end_by_rules(alloc, known)?.is_some() {
             return Ok(None);
         }
-        let by_rules = self.caller_by_rules(alloc, known)?;
-        if by_rules.is_some() {
-            return Ok(by_rules);
+        if let Some(rules) = self.rules_at(known) {
+            let caller = rules.caller(alloc, self, &known.frame)?;
+            if caller.is_some() {
+                return Ok(caller);
+            }
         }
         self.caller_without(alloc, known)
-    }
-
-    // Returns the caller of a frame by its rules.
-    #[tactic(auto, unfolding(crate::specs::Walk::caller_by_rules))]
-    fn caller_by_rules(
-        &self,
-        alloc: Global,
-        known: &KnownFrame,
-    ) -> Result<Option<KnownFrame>, AllocError>
-        ensures { IfOk result (λ caller. option_map frame_of caller
-            ≡ caller_by_rules (unwinder_of self.now) (frame_of known.now)) }
-    {
-        match self.rules_at(known) {
-            Some(rules) => rules.caller(alloc, self, &known.frame),
-            None => Ok(None),
-        }
     }
 
     // Returns the caller by the frame pointer, or else the candidate from which the walk starts again.
