@@ -92,13 +92,11 @@ IsInfoLine dump address text =
     (found : Option InfoRegion) × IsLookedUpIn range_of_info_region
     (option_map info_regions (info_of_dump dump)) address found × (text ≡ info_line found)
 
--- the lines of what lies at an address, after that of the memory
-abbrev pub AreLastLines : Dump → ℕ → List ℕ → Type 0
-AreLastLines dump address = IsJoinOf (IsModuleLine dump address) (IsInfoLine dump address)
-
--- all of them
+-- the lines of what lies at an address: that of the memory, that of the module, and that of the region
+-- by the information on memory
 abbrev pub AreLinesOf : Dump → ℕ → List ℕ → Type 0
-AreLinesOf dump address = IsJoinOf (IsMemoryLine dump address) (AreLastLines dump address)
+AreLinesOf dump address =
+    IsJoinOf (IsMemoryLine dump address) (IsJoinOf (IsModuleLine dump address) (IsInfoLine dump address))
 
 -- the same of the minidump in the file of a path
 abbrev pub AreLines : {F : Type 0} → (List ℕ → Option F → Type 0) → (F → Option (List ℕ)) → List ℕ
@@ -172,17 +170,9 @@ subject_of [] = codes "mdump"
 subject_of (word ∷ []) = codes "mdump"
 subject_of (word ∷ path ∷ words) = path
 
--- the name of an error, which ends a line
-abbrev pub name_line : Error → List ℕ
-name_line e = name_of_error e ++ codes "\n"
-
--- the same after what it is said of
-abbrev pub named_line : Error → List ℕ
-named_line e = codes ": " ++ name_line e
-
 -- the line of an error: what it is said of, and its name
 abbrev pub error_line : List ℕ → Error → List ℕ
-error_line subject e = subject ++ named_line e
+error_line subject e = subject ++ (codes ": " ++ (name_of_error e ++ codes "\n"))
 
 -- What a run of the program with these words wrote, by its status. 0: the output took what the
 -- words ask for. 1: there was an error, whose line standard error took. The output is as it was, or

@@ -40,9 +40,7 @@
 
 mod address;
 mod command;
-mod info;
-mod memory;
-mod module;
+mod lines;
 mod program;
 mod start;
 

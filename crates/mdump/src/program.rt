@@ -3,15 +3,12 @@ ghost use Rattle.std.specs.Option.{option_map};
 ghost use Rattle.minidump.specs.Below.Format.Print.{Prints, out_of_memory};
 ghost use Rattle.minidump.specs.DumpValue.{dump_of};
 ghost use Rattle.mdump.specs.Command.{IsCommand};
-ghost use Rattle.mdump.specs.Done.{AreLastLines, AreLines, AreLinesOf, IsAnswer, IsDirectoryText};
-ghost use Rattle.mdump.specs.Done.{IsFileError, IsCommandError, IsReportText, IsRun};
-ghost use Rattle.mdump.specs.Done.{IsTextOf, IsTold, Writes, error_line, name_line, named_line, path_of};
-ghost use Rattle.mdump.specs.Done.{subject_of, told_of, usage};
+ghost use Rattle.mdump.specs.Done.{AreLines, AreLinesOf, IsAnswer, IsDirectoryText, IsFileError};
+ghost use Rattle.mdump.specs.Done.{IsCommandError, IsReportText, IsRun, IsTextOf, IsTold, Writes};
+ghost use Rattle.mdump.specs.Done.{error_line, path_of, subject_of, told_of, usage};
 
 use crate::command::Command;
-use crate::info::info_line;
-use crate::memory::memory_line;
-use crate::module::module_line;
+use crate::lines::{info_line, memory_line, module_line};
 use minidump::text::put_text;
 use minidump::{CodeNames, Error, Minidump, OpenPath, Told, laws, read_file, write_report};
 use std::alloc::Global;
@@ -184,21 +181,6 @@ fn lines<O: Write>(
     laws::module_laws();
     laws::region_laws::<()>();
     memory_line(dump, alloc, address, out)?;
-    last_lines(dump, alloc, address, out)
-}
-
-// Writes the lines after that of the memory.
-fn last_lines<O: Write>(
-    dump: &Minidump<'_>,
-    alloc: Global,
-    address: u64,
-    out: &mut Told<O>,
-) -> Result<(), Error>
-    ensures written { Writes (AreLastLines (dump_of dump.now) address) O.contents
-        out.old out.new result }
-    ensures error { IfErr result (λ e. e ≡ out_of_memory out.new) }
-{
-    laws::region_laws::<()>();
     module_line(dump, alloc, address, out)?;
     info_line(dump, alloc, address, out)
 }
@@ -216,31 +198,10 @@ fn put_error<E: Write>(subject: &str, error: Error, err: &mut Told<E>) -> Result
     ensures prints { Prints E.contents err.old err.new (error_line subject.now error) result }
     ensures error { IfErr result (λ e. e ≡ Error.IoError) }
 {
-    match put_text(err, subject) {
-        Ok(()) => put_named(error, err),
-        Err(failure) => Err(failure),
-    }
-}
-
-// Writes the rest of such a line after what it is said of.
-fn put_named<E: Write>(error: Error, err: &mut Told<E>) -> Result<(), Error>
-    ensures prints { Prints E.contents err.old err.new (named_line error) result }
-    ensures error { IfErr result (λ e. e ≡ Error.IoError) }
-{
-    match put_text(err, ": ") {
-        Ok(()) => put_name(error, err),
-        Err(failure) => Err(failure),
-    }
-}
-
-fn put_name<E: Write>(error: Error, err: &mut Told<E>) -> Result<(), Error>
-    ensures prints { Prints E.contents err.old err.new (name_line error) result }
-    ensures error { IfErr result (λ e. e ≡ Error.IoError) }
-{
-    match put_text(err, error.name()) {
-        Ok(()) => put_text(err, "\n"),
-        Err(failure) => Err(failure),
-    }
+    put_text(err, subject)?;
+    put_text(err, ": ")?;
+    put_text(err, error.name())?;
+    put_text(err, "\n")
 }
 
 /// Writes the usage to `err`, and returns the status of arguments that are no command.

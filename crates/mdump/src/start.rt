@@ -31,7 +31,7 @@ pub(crate) fn run_arguments<R: OpenPath + AllocGlobal, O: Write, E: Write>(
         → IsNoCommand E.contents out.old out.new err.old err.new (exit_status result)) }
 {
     let status = match args {
-        Ok(args) => run(rt, words(args.as_slice()), out, err),
+        Ok(args) => run(rt, args.get(1..).unwrap_or(&[]), out, err),
         Err(error) if error.kind() == ErrorKind::OutOfMemory => {
             fail_with("mdump", Error::OutOfMemory, err)
         }
@@ -39,16 +39,6 @@ pub(crate) fn run_arguments<R: OpenPath + AllocGlobal, O: Write, E: Write>(
         Err(_) => bad_arguments(err),
     };
     ExitCode::from(status)
-}
-
-// Returns the arguments without the program's own name.
-fn words(args: &[String]) -> &[String]
-    ensures { result.now ≡ drop 1 args.now }
-{
-    match args {
-        [_name, words @ ..] => words,
-        [] => &[],
-    }
 }
 
 /// Returns the arguments of the process, its own name included, or the error if they can't be read.

@@ -43,7 +43,12 @@ fn dumps_of<'l>(alloc: Global, arguments: &[&'l str]) -> Result<Vec<Dump<'l>>, A
 {
     let mut dumps = Vec::new(alloc);
     for path in arguments {
-        dumps.push(argument(*path))?;
+        let dump = if *path == "-" {
+            Dump::Input
+        } else {
+            Dump::File(*path)
+        };
+        dumps.push(dump)?;
     }
     Ok(dumps)
 }
@@ -77,17 +82,6 @@ fn push_path<'l>(dumps: &mut Vec<Dump<'l>>, path: &'l [u8]) -> Result<(), AllocE
         dumps.push(listed(path))?;
     }
     Ok(())
-}
-
-// Returns the dump of an argument.
-fn argument(path: &str) -> Dump<'_>
-    ensures { asked_of result ≡ by_argument path.now }
-{
-    if path == "-" {
-        Dump::Input
-    } else {
-        Dump::File(path)
-    }
 }
 
 // Returns the dump of a path in a list.
@@ -145,18 +139,13 @@ impl ReadDumps for Files<'_> {
     }
 
     fn read_input(&self) -> io::Result<Option<Vec<u8>>> {
-        read_input(self.rt, self.limit)
+        read_to_limit(self.rt.alloc(), self.rt.stdin(), self.limit)
     }
 }
 
 /// Reads a file, or returns `None` if it has more bytes than the limit.
 pub(crate) fn read_file(rt: &HostRuntime, path: &str, limit: usize) -> io::Result<Option<Vec<u8>>> {
     read_to_limit(rt.alloc(), File::open(rt, path)?, limit)
-}
-
-// Reads standard input, or returns `None` if it has more bytes than the limit.
-fn read_input(rt: &HostRuntime, limit: usize) -> io::Result<Option<Vec<u8>>> {
-    read_to_limit(rt.alloc(), rt.stdin(), limit)
 }
 
 // Reads to the end, or returns `None` if there are more bytes than the limit.

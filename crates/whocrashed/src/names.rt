@@ -23,44 +23,25 @@ pub(crate) fn names_text(rt: &HostRuntime, options: &Options<'_>) -> io::Result<
     }
 }
 
-// Reads files of names. Returns `None` if one of them can't be read or isn't one.
+// Reads files of names. Returns `None` if one of them can't be read or isn't one, which it says.
 fn read_texts(rt: &HostRuntime, paths: &[&str]) -> io::Result<Option<Vec<Vec<u8>>>> {
     let mut texts = Vec::new(rt.alloc());
     for path in paths {
-        match read_text(rt, *path)? {
-            Some(text) => texts.push(text)?,
-            None => return Ok(None),
+        match fs::read(rt, *path) {
+            Ok(text) => {
+                if let Err(error) = NameTable::read(rt.alloc(), &text) {
+                    complain(rt, *path, format!(in rt.alloc(); "{error}")?.as_str())?;
+                    return Ok(None);
+                }
+                texts.push(text)?;
+            }
+            Err(error) => {
+                complain_of(rt, *path, &error)?;
+                return Ok(None);
+            }
         }
     }
     Ok(Some(texts))
-}
-
-// Reads a file of names. Returns `None` if it can't be read or isn't one.
-fn read_text(rt: &HostRuntime, path: &str) -> io::Result<Option<Vec<u8>>> {
-    match fs::read(rt, path) {
-        Ok(text) => {
-            if is_accepted(rt, path, &text)? {
-                Ok(Some(text))
-            } else {
-                Ok(None)
-            }
-        }
-        Err(error) => {
-            complain_of(rt, path, &error)?;
-            Ok(None)
-        }
-    }
-}
-
-// Tells whether a text is one of names, and says why if it isn't.
-fn is_accepted(rt: &HostRuntime, path: &str, text: &[u8]) -> io::Result<bool> {
-    match NameTable::read(rt.alloc(), text) {
-        Ok(_) => Ok(true),
-        Err(error) => {
-            complain(rt, path, format!(in rt.alloc(); "{error}")?.as_str())?;
-            Ok(false)
-        }
-    }
 }
 
 // Makes one text of several, all of them of names. Of two names of a code the last counts.

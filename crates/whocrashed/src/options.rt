@@ -1,7 +1,7 @@
 ghost use Rattle.std.specs.Prelude.{◌≡◌, IfOk, false, is_some, map};
 ghost use Rattle.clap.specs.Words.{found_of};
 ghost use Rattle.whocrashed.specs.Options.{AreAskedFor, AreOptions, IsFlag, IsNumber, form_by};
-ghost use Rattle.whocrashed.specs.Options.{has_several_inputs, inputs_in, is_refused, values_in};
+ghost use Rattle.whocrashed.specs.Options.{has_several_inputs, is_refused, values_in};
 
 use clap::error::ErrorKind;
 use clap::{Arg, ArgAction, ArgMatches, Command, Error, value_parser};
@@ -121,7 +121,8 @@ fn read_by<'w>(
     ensures accepted { IfOk result (λ options. is_refused options.form options.limits.frames
         (map (λ p. p.now) options.dumps.items) options.are_listed ≡ false) }
 {
-    let options = options_in(alloc, command, words)?;
+    let matches = command.try_get_matches_from_mut(words)?;
+    let options = options_of(alloc, &matches)?;
     match refusal(&options) {
         Some((kind, why)) => Err(command.error(kind, why)?),
         None => Ok(options),
@@ -148,31 +149,12 @@ fn refusal(options: &Options<'_>) -> Option<(ErrorKind, &'static str)>
     None
 }
 
-// Tells whether standard input is asked for more than once.
+// Tells whether standard input, which is the path `-`, is asked for more than once.
 fn has_several_inputs(paths: &[&str], are_listed: bool) -> bool
     ensures { result ≡ has_several_inputs (map (λ p. p.now) paths.now) are_listed }
 {
-    let inputs = inputs_in(paths);
+    let inputs = paths.iter().filter(|path| **path == "-").count();
     inputs > 1 || inputs == 1 && are_listed
-}
-
-// Counts the paths that are `-`.
-fn inputs_in(paths: &[&str]) -> usize
-    ensures { result ≡ inputs_in (map (λ p. p.now) paths.now) }
-{
-    paths.iter().filter(|path| **path == "-").count()
-}
-
-// Returns what the arguments ask for, by the command.
-fn options_in<'w>(
-    alloc: Global,
-    command: &mut Command<'w>,
-    words: &'w [String],
-) -> Result<Options<'w>, Error>
-    ensures { IfOk result (λ options. AreAskedFor command.old words.entry.now options) }
-{
-    let matches = command.try_get_matches_from_mut(words)?;
-    Ok(options_of(alloc, &matches)?)
 }
 
 // Returns what the matches ask for.
@@ -255,38 +237,24 @@ fn command<'w>(alloc: Global) -> Result<Command<'w>, AllocError> {
         .about(ABOUT)
         .after_help(EXAMPLES);
     for (name, takes, help) in OPTIONS {
-        let arg = arg_of(alloc, *name, takes, *help)?;
-        command = command.arg(arg)?;
-    }
-    command.arg(dumps(alloc)?)
-}
-
-// Makes an option.
-fn arg_of<'w>(
-    alloc: Global,
-    name: &'static str,
-    takes: &'static Takes,
-    help: &'static str,
-) -> Result<Arg<'w>, AllocError> {
-    let arg = Arg::new(alloc, name).long(name).help(help);
-    match takes {
-        Takes::Nothing => Ok(arg.action(ArgAction::SetTrue)),
-        Takes::NothingBeside(names) => arg.action(ArgAction::SetTrue).conflicts_with_all(*names),
-        Takes::Paths(value) => Ok(arg.value_name(*value).action(ArgAction::Append)),
-        Takes::Number(value, default) => Ok(
-            arg.value_name(*value)
+        let arg = Arg::new(alloc, *name).long(*name).help(*help);
+        command = command.arg(match takes {
+            Takes::Nothing => arg.action(ArgAction::SetTrue),
+            Takes::NothingBeside(names) => {
+                arg.action(ArgAction::SetTrue).conflicts_with_all(*names)?
+            }
+            Takes::Paths(value) => arg.value_name(*value).action(ArgAction::Append),
+            Takes::Number(value, default) => arg
+                .value_name(*value)
                 .value_parser(value_parser!(usize))
                 .default_value(*default),
-        ),
+        })?;
     }
-}
-
-// Makes the argument.
-fn dumps<'w>(alloc: Global) -> Result<Arg<'w>, AllocError> {
-    Arg::new(alloc, "dumps")
+    let dumps = Arg::new(alloc, "dumps")
         .value_name("DUMP")
         .help("A minidump, or - for the one on standard input")
         .action(ArgAction::Append)
         .num_args(1..)
-        .required_unless_present("stdin-paths")
+        .required_unless_present("stdin-paths")?;
+    command.arg(dumps)
 }

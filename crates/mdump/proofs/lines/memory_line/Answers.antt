@@ -9,7 +9,7 @@ use Rattle.minidump.specs.DumpValue.{dump_of}
 use Rattle.mdump.specs.Done.{IsMemoryLine}
 use Rattle.mdump.specs.Lines.{IsLookedUpIn, memory_line}
 use Rattle.mdump.proofs.PrintLemmas.{print_error, writes_text}
-use Rattle.mdump.proofs.memory.memory_line.Goals as goal
+use Rattle.mdump.proofs.lines.memory_line.Goals as goal
 
 pub returns-clause-written : goal.returns-clause-written
 returns-clause-written g c =

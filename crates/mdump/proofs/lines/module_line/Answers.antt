@@ -12,7 +12,7 @@ use Rattle.minidump.specs.Modules.{modules_of_dump}
 use Rattle.mdump.specs.Done.{IsModuleLine}
 use Rattle.mdump.specs.Lines.{IsLookedUpIn, module_line}
 use Rattle.mdump.proofs.PrintLemmas.{print_error, writes_text}
-use Rattle.mdump.proofs.module.module_line.Goals as goal
+use Rattle.mdump.proofs.lines.module_line.Goals as goal
 
 -- a part of what is found is that part of its value
 of_value : {L V W : Type 0} (value : L → V) (part : V → W) (found : Option L)

@@ -7,7 +7,7 @@ use Rattle.minidump.specs.DumpValue.{dump_of}
 use Rattle.mdump.specs.Done.{IsInfoLine, info_of_dump}
 use Rattle.mdump.specs.Lines.{IsLookedUpIn, info_line}
 use Rattle.mdump.proofs.PrintLemmas.{print_error, writes_text}
-use Rattle.mdump.proofs.info.info_line.Goals as goal
+use Rattle.mdump.proofs.lines.info_line.Goals as goal
 
 pub returns-clause-written : goal.returns-clause-written
 returns-clause-written g c =
@@ -20,9 +20,9 @@ returns-clause-written g c =
           (ap (option_map info_list) c.as_ref.ensures.value ∙ same) c.info_at-found.ensures,
       refl,
     )
-    (rw c.range_of.ensures at c.print_item.ensures)
+    c.print_item.ensures
 
 pub returns-clause-error : goal.returns-clause-error
 returns-clause-error g c =
     let text = info_line (option_map info_region c.info_at-found.result) in
-    print_error g.O.Write.contents c.args.out.now c.print_item.new.f text c.print_item.result (rw c.range_of.ensures at c.print_item.ensures)
+    print_error g.O.Write.contents c.args.out.now c.print_item.new.f text c.print_item.result c.print_item.ensures
