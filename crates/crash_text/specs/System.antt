@@ -4,6 +4,9 @@ use Rattle.std.specs.Fmt.{decimal}
 use Rattle.std.specs.List.{concat}
 use Rattle.minidump.specs.Below.Records.BootArgs.{BootArgs}
 use Rattle.minidump.specs.declared.MinidumpBreakpadInfo.{MinidumpBreakpadInfo}
+use Rattle.minidump.specs.declared.system_info.Os.{Os}
+use Rattle.minidump.specs.declared.system_info.Os.TheVariants.{Unknown}
+use Rattle.minidump.specs.Below.Bytes.Piece.{hex}
 use Rattle.minidump.specs.Below.System.Cpu.{cpu_name}
 use Rattle.minidump.specs.Below.System.Dates.{date_text_of}
 use Rattle.minidump.specs.Below.System.Os.{os_name}
@@ -14,6 +17,11 @@ use Rattle.crash_text.specs.Lines.{if_ok, if_some}
 use Rattle.crash_text.specs.Words.{id_text, missing_lines, or_empty, text_lines, text_row}
 use Rattle.crash_text.specs.Words.{unless_empty}
 
+-- the name of an operating system, with its number where it is unknown
+abbrev pub system_name : Os → List ℕ
+system_name (Unknown number) = concat (codes "unknown " ∷ hex number ∷ [])
+system_name os = os_name os
+
 -- the line of a system by the names of its kind and of its processor: its version and its build,
 -- and how many processors there are
 unfoldable pub system_row : List ℕ → List ℕ → SystemValue → List ℕ
@@ -23,7 +31,7 @@ system_row os cpu s = concat (codes "system  " ∷ os ∷ codes " " ∷ s.versio
 
 -- the same by its value alone
 abbrev pub system_line : SystemValue → List ℕ
-system_line s = system_row (os_name s.os) (cpu_name s.cpu) s
+system_line s = system_row (system_name s.os) (cpu_name s.cpu) s
 
 -- the lines of a system, with the description of its processor and the version of the microcode
 abbrev pub known_system_lines : SystemValue → List (List ℕ)

@@ -1,4 +1,4 @@
-ghost use Rattle.std.specs.Prelude.{[], ◌∷◌, codes};
+ghost use Rattle.std.specs.Prelude.{◌≡◌, [], ◌∷◌, IfOk, codes, string_bytes};
 ghost use Rattle.std.specs.Option.{option_map};
 ghost use Rattle.minidump.specs.Below.Contexts.Context.{map_ok};
 ghost use Rattle.minidump.specs.Promise.{breakpad_info_stream, mac_bootargs_stream, system_info_stream};
@@ -8,15 +8,18 @@ ghost use Rattle.crash.specs.Release.{release_of};
 ghost use Rattle.crash_text.specs.Lines.{Adds, if_ok, if_some};
 ghost use Rattle.crash_text.specs.System.{amount_row, boot_lines, breakpad_lines, date_lines, head_lines};
 ghost use Rattle.crash_text.specs.System.{known_system_lines, number_lines, release_line};
-ghost use Rattle.crash_text.specs.System.{said_lines, system_line, system_lines, system_row};
+ghost use Rattle.crash_text.specs.System.{said_lines, system_line, system_lines, system_name};
+ghost use Rattle.crash_text.specs.System.{system_row};
 ghost use Rattle.crash_text.specs.Words.{id_text, missing_lines};
 
 use crate::lines::{Added, push_line};
 use crate::words::{or_empty, push_id, push_if_missing, push_text, push_text_row, unless_empty};
 use crash::{Crash, CrashProcess, CrashSystem, LsbRelease};
-use minidump::text::Piece::{Decimal, Words};
+use minidump::system_info::Os;
+use minidump::text::Piece::{Decimal, Hex, Words};
+use minidump::text::format_pieces;
 use minidump::{Error, MinidumpBreakpadInfo, MinidumpMacBootargs, MinidumpSystemInfo, date_text};
-use std::alloc::AllocError;
+use std::alloc::{AllocError, Global};
 
 // Appends the lines of the system, of the date of the dump, and of the process.
 pub(crate) fn push_head(out: &mut String, crash: &Crash<'_>) -> Added
@@ -70,9 +73,19 @@ fn push_system_line(out: &mut String, system: &CrashSystem) -> Added
     ensures { Adds out.old out.new (system_line (system_of system.now) ∷ []) result }
 {
     let alloc = *out.allocator();
-    let os = system.os.to_string(alloc)?;
+    let os = system_name(alloc, system.os)?;
     let cpu = system.cpu.to_string(alloc)?;
     push_row(out, system, os.as_str(), cpu.as_str())
+}
+
+// Makes the name of an operating system, with its number if it is unknown.
+fn system_name(alloc: Global, os: Os) -> Result<String, AllocError>
+    ensures { IfOk result (λ text. string_bytes text ≡ system_name os) }
+{
+    match os {
+        Os::Unknown(number) => format_pieces(alloc, &[Words("unknown "), Hex(number as u64)]),
+        _ => os.to_string(alloc),
+    }
 }
 
 #[rattlefmt::skip]
