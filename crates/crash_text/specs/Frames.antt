@@ -1,5 +1,5 @@
 -- The lines of frames, and which frames are printed.
-use Rattle.std.specs.Prelude.{ℕ, ◌++◌, ◌-◌, Bool, false, true, List, [], ◌∷◌, length, map, nat_lt}
+use Rattle.std.specs.Prelude.{ℕ, ◌++◌, ◌-◌, ◌==◌, Bool, false, true, List, [], ◌∷◌, length, map}
 use Rattle.std.specs.Prelude.{codes, if◌then◌else◌, take, unwrap_or, Option, Some, None}
 use Rattle.std.specs.Fmt.{decimal}
 use Rattle.std.specs.List.{concat, enumerate_from, flat_map}
@@ -133,10 +133,10 @@ abbrev pub printed_frames : TextLimits → Bool → BacktraceValue → List Name
 printed_frames limits is_whole w =
     if is_whole then first_frames limits.frames w else take 1 w.frames
 
--- the line of the number of frames that are not printed, where there are any beyond the limit
-unfoldable pub hidden_lines : ℕ → ℕ → List (List ℕ)
-hidden_lines limit count = if nat_lt limit count
-    then concat (codes "    and " ∷ decimal (count - limit) ∷ codes " more" ∷ []) ∷ [] else []
+-- the line of a count between its words, where there is anything to count
+unfoldable pub lines_if_any : List ℕ → ℕ → List ℕ → List (List ℕ)
+lines_if_any before count after =
+    if count == 0 then [] else concat (before ∷ decimal count ∷ after ∷ []) ∷ []
 
 -- why a walk ends, in words
 abbrev pub end_text : SymbolWalkEnd → List ℕ
@@ -150,16 +150,14 @@ end_text (Walk NoCode) = codes "return address in no module"
 end_text NoReturnRule = codes "no rule for the return address"
 end_text ZeroReturnAddress = codes "return address of 0"
 
--- the line of the number of candidates, which follow the last caller, where there are any
-unfoldable pub candidate_lines : ℕ → List (List ℕ)
-candidate_lines count = if nat_lt 0 count
-    then concat (codes "    candidates: " ∷ decimal count ∷ []) ∷ [] else []
-
--- what comes after the frames of a thread whose frames are all printed: how many more there are,
--- the end of its walk, and how many of all of them are candidates
+-- what comes after the frames of a thread whose frames are all printed: how many more there are
+-- beyond the limit, the end of its walk, and how many of all of them are candidates, which follow
+-- the last caller
 unfoldable pub rest_lines : TextLimits → BacktraceValue → List (List ℕ)
-rest_lines limits w = hidden_lines limits.frames (length (all_frames w))
-    ++ (concat (codes "    end: " ∷ end_text w.end ∷ []) ∷ candidate_lines (length w.candidates))
+rest_lines limits w =
+    lines_if_any (codes "    and ") (length (all_frames w) - limits.frames) (codes " more")
+    ++ (concat (codes "    end: " ∷ end_text w.end ∷ [])
+    ∷ lines_if_any (codes "    candidates: ") (length w.candidates) [])
 
 -- what is found in the stack of a thread
 abbrev pub walk_lines : PageValue → Bool → BacktraceValue → List (List ℕ)

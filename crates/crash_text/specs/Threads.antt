@@ -46,10 +46,10 @@ abbrev pub memory_lines : Option StackRange → StackRange → List (List ℕ)
 memory_lines stack memory =
     if is_range memory stack then [] else range_row (codes "stack memory") memory ∷ []
 
--- the stack of a thread, and its memory
-abbrev pub stack_lines : ThreadValue → List (List ℕ)
-stack_lines t = if_some (λ range. range_row (codes "stack") range ∷ []) t.stack
-    ++ if_some (memory_lines t.stack) t.stack_memory
+-- the stack of a thread as its entry names it, and its memory
+abbrev pub stack_lines : Option StackRange → Option StackRange → List (List ℕ)
+stack_lines stack memory = if_some (λ range. range_row (codes "stack") range ∷ []) stack
+    ++ if_some (memory_lines stack) memory
 
 -- why a thread has no frames
 abbrev pub no_walk_row : Option SystemValue → Option ContextProblem → List ℕ
@@ -74,7 +74,7 @@ found_lines p is_whole t None = no_walk_row p.crash.process.system t.context_pro
 abbrev pub thread_lines : PageValue → Bool → ℕ → ThreadValue → List (List ℕ)
 thread_lines p is_whole number t = thread_row t
     ∷ (text_lines (codes "    last error ") t.last_error ++ (short_lines t
-    ++ ((if is_whole then stack_lines t else [])
+    ++ ((if is_whole then stack_lines t.stack t.stack_memory else [])
     ++ found_lines p is_whole t (shown_in p.symbols number t))))
 
 -- ---- threads

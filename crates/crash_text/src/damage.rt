@@ -31,24 +31,19 @@ impl Line for Damage {
 
     ghost line = { damage_row };
 
+    #[rattlefmt::skip]
     fn push(&self, out: &mut String) -> Added {
         match *self {
             Damage::Stream { number, error } => {
                 let stream = stream_text(*out.allocator(), number)?;
                 push_stream(out, stream.as_str(), error.name())
             }
-            Damage::Entries { count } => {
-                push_number(out, "outside the file: ", "entries of the directory", count)
-            }
-            Damage::Regions { count } => push_number(
-                out,
-                "outside the file: ",
-                "regions of the plain list of memory",
-                count,
-            ),
-            Damage::Modules { count } => {
-                push_number(out, "can't be read: ", "modules without addresses", count)
-            }
+            Damage::Entries { count } =>
+                push_number(out, "outside the file: ", "entries of the directory", count),
+            Damage::Regions { count } =>
+                push_number(out, "outside the file: ", "regions of the plain list of memory", count),
+            Damage::Modules { count } =>
+                push_number(out, "can't be read: ", "modules without addresses", count),
             Damage::Texts { number, count } => {
                 let stream = stream_text(*out.allocator(), number)?;
                 push_number(out, "can't be read: texts of ", stream.as_str(), count)
@@ -57,27 +52,19 @@ impl Line for Damage {
                 let stream = stream_text(*out.allocator(), number)?;
                 push_number(out, "can't be read: records of ", stream.as_str(), count)
             }
-            Damage::Exception { error } => push_stream(
-                out,
-                "an exception before the last",
-                error.name(),
-            ),
+            Damage::Exception { error } =>
+                push_stream(out, "an exception before the last", error.name()),
             Damage::Parameters { thread, count } => {
                 let words = "parameters of the exception on thread ";
                 let parameters = id_text(*out.allocator(), words, thread)?;
                 push_number(out, "can't be read: ", parameters.as_str(), count)
             }
-            Damage::ExceptionContext { thread } => push_id(
-                out,
-                "outside the file: the context of the exception on thread ",
-                thread,
-            ),
-            Damage::ThreadContext { thread } => {
-                push_id(out, "outside the file: the context of thread ", thread)
-            }
-            Damage::Stack { thread } => {
-                push_id(out, "outside the file: the stack of thread ", thread)
-            }
+            Damage::ExceptionContext { thread } =>
+                push_id(out, "outside the file: the context of the exception on thread ", thread),
+            Damage::ThreadContext { thread } =>
+                push_id(out, "outside the file: the context of thread ", thread),
+            Damage::Stack { thread } =>
+                push_id(out, "outside the file: the stack of thread ", thread),
         }
     }
 }

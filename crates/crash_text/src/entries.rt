@@ -4,8 +4,8 @@ ghost use Rattle.std.specs.Option.{option_map};
 ghost use Rattle.minidump_bytes.specs.LinuxOsStr.{text_of};
 ghost use Rattle.crash_symbols.specs.NameParts.{call_of, source_of};
 ghost use Rattle.crash_symbols.specs.Shown.{shown_frame_of};
-ghost use Rattle.crash_text.specs.Frames.{call_entry, entries_in, entries_of, entry_of, found_text};
-ghost use Rattle.crash_text.specs.Frames.{name_text, offset_text, own_entry, source_text};
+ghost use Rattle.crash_text.specs.Frames.{call_entry, entries_in, entry_of, found_text, name_text};
+ghost use Rattle.crash_text.specs.Frames.{source_text};
 
 use crate::lines::Added;
 use crash::CrashFrame;
@@ -38,19 +38,16 @@ pub(crate) fn entries_in<'l>(
 {
     let mut entries = Vec::new(alloc);
     for frame in frames {
-        push_entries(&mut entries, frame)?;
+        push_calls(&mut entries, frame.frame, frame.inlines)?;
+        entries.push(FrameEntry {
+            frame: frame.frame,
+            function: frame.function.map(|function| function.name),
+            offset: frame.function.map(|function| function.offset),
+            source: frame.line,
+            is_inline: false,
+        })?;
     }
     Ok(entries)
-}
-
-// Appends the inlined calls at a frame, and the frame, to a list.
-fn push_entries<'l>(entries: &mut Vec<FrameEntry<'l>>, frame: &ShownFrame<'_, 'l>) -> Added
-    ensures { OnOk result (map entry_of entries.new.items ≡ map entry_of entries.old.items
-        ++ entries_of (shown_frame_of frame.now)) }
-{
-    push_calls(entries, frame.frame, frame.inlines)?;
-    entries.push(own_entry(frame))?;
-    Ok(())
 }
 
 // Appends inlined calls at a frame to a list.
@@ -74,26 +71,10 @@ fn push_calls<'l>(
     Ok(())
 }
 
-// Returns a frame without the inlined calls there.
-fn own_entry<'l>(frame: &ShownFrame<'_, 'l>) -> FrameEntry<'l>
-    ensures { entry_of result ≡ own_entry (shown_frame_of frame.now) }
-{
-    let (function, offset) = match frame.function {
-        Some(function) => (Some(function.name), Some(function.offset)),
-        None => (None, None),
-    };
-    FrameEntry {
-        frame: frame.frame,
-        function,
-        offset,
-        source: frame.line,
-        is_inline: false,
-    }
-}
-
 // ---- words
 
 // Makes the words for a function by its name and an offset in it.
+#[rattlefmt::skip]
 pub(crate) fn name_text(
     alloc: Global,
     name: Option<LinuxOsStr<'_>>,
@@ -105,22 +86,13 @@ pub(crate) fn name_text(
     match name {
         Some(name) => {
             let name = name.to_string_lossy(alloc)?;
-            let offset = offset_text(alloc, offset)?;
-            format_pieces(
-                alloc,
-                &[Words(" "), Words(name.as_str()), Words(offset.as_str())],
-            )
+            match offset {
+                Some(offset) => format_pieces(alloc, &[
+                    Words(" "), Words(name.as_str()), Words(" + "), Hex(offset),
+                ]),
+                None => format_pieces(alloc, &[Words(" "), Words(name.as_str())]),
+            }
         }
-        None => Ok(String::new(alloc)),
-    }
-}
-
-// Makes the words for an offset in a function.
-fn offset_text(alloc: Global, offset: Option<u64>) -> Result<String, AllocError>
-    ensures { IfOk result (λ words. string_bytes words ≡ offset_text offset) }
-{
-    match offset {
-        Some(offset) => format_pieces(alloc, &[Words(" + "), Hex(offset)]),
         None => Ok(String::new(alloc)),
     }
 }
@@ -134,17 +106,14 @@ pub(crate) fn source_text(
     ensures { IfOk result (λ words. string_bytes words
         ≡ source_text (option_map source_of source.entry)) }
 {
-    match source {
-        Some(source) => match source.file {
-            Some(file) => {
-                let (file, line) = (file.to_string_lossy(alloc)?, source.line as u64);
-                format_pieces(alloc, &[
-                    Words(" at "), Words(file.as_str()), Words(":"), Decimal(line),
-                ])
-            }
-            None => Ok(String::new(alloc)),
-        },
-        None => Ok(String::new(alloc)),
+    if let Some(source) = source && let Some(file) = source.file {
+        let file = file.to_string_lossy(alloc)?;
+        let line = source.line as u64;
+        format_pieces(alloc, &[
+            Words(" at "), Words(file.as_str()), Words(":"), Decimal(line),
+        ])
+    } else {
+        Ok(String::new(alloc))
     }
 }
 

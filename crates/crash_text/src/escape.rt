@@ -3,8 +3,7 @@
 ghost use Rattle.std.specs.Prelude.{◌≡◌, ◌++◌, ◌∷◌, [], OnOk, chars, encode_utf8_all, false};
 ghost use Rattle.std.specs.Prelude.{string_bytes, true};
 ghost use Rattle.std.specs.List.{flat_map, list_all, list_any};
-ghost use Rattle.crash_text.specs.Escape.{escape, escape_char, escaped_text, is_control};
-ghost use Rattle.crash_text.specs.Escape.{is_printed};
+ghost use Rattle.crash_text.specs.Escape.{escape_char, escaped_text, is_control, is_printed};
 
 use std::alloc::AllocError;
 
@@ -29,18 +28,11 @@ fn push_char(out: &mut String, c: char) -> Result<(), AllocError>
         (flat_map escape_char (c ∷ []))) }
 {
     if is_control(c) {
-        push_escape(out, c)
+        let number = u32::from(c);
+        write!(out, "\\u{{{number:x}}}")
     } else {
         out.push(c)
     }
-}
-
-// Appends the escape of a character.
-fn push_escape(out: &mut String, c: char) -> Result<(), AllocError>
-    ensures { OnOk result (string_bytes out.new ≡ string_bytes out.old ++ escape c) }
-{
-    let number = u32::from(c);
-    write!(out, "\\u{{{number:x}}}")
 }
 
 // Tells whether a character is shown as an escape: one of the control characters, a line or

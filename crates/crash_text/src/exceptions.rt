@@ -8,7 +8,7 @@ ghost use Rattle.crash_text.specs.Exceptions.{exception_line, none_lines, read_l
 ghost use Rattle.crash_text.specs.Exceptions.{several_lines, several_row, unread_row};
 ghost use Rattle.crash_text.specs.Lines.{Adds};
 
-use crate::addresses::push_address;
+use crate::addresses::push_address_line;
 use crate::lines::{Added, push_line};
 use crate::point::push_point;
 use crate::records::{described_text, record_text};
@@ -46,7 +46,9 @@ fn push_counted(out: &mut String, crash: &Crash<'_>, exception: &CrashException)
         (counted_lines (crash_of crash.now) (exception_of exception.now)) result }
 {
     push_id(out, "crashed thread ", exception.thread)?;
-    push_address(out, crash)?;
+    if let Some(facts) = &crash.cause.address {
+        push_address_line(out, crash, "", "address", "", facts)?;
+    }
     push_text(out, "reason  ", &exception.reason)?;
     push_code(out, exception)?;
     push_text(out, "description ", &exception.description)?;

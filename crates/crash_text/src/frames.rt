@@ -1,8 +1,7 @@
-ghost use Rattle.std.specs.Prelude.{◌≡◌, [], ◌∷◌, ◌++◌, IfOk, OnOk, map};
+ghost use Rattle.std.specs.Prelude.{◌≡◌, [], ◌∷◌, IfOk, map};
 ghost use Rattle.crash.specs.Modules.{loaded_of};
 ghost use Rattle.crash_symbols.specs.Shown.{shown_frame_of, shown_of};
-ghost use Rattle.crash_text.specs.Frames.{candidate_lines, each_entry, end_text, entry_line};
-ghost use Rattle.crash_text.specs.Frames.{entry_of, hidden_lines, printed_address};
+ghost use Rattle.crash_text.specs.Frames.{each_entry, end_text, entry_line, entry_of, lines_if_any};
 ghost use Rattle.crash_text.specs.Frames.{printed_frames, rest_lines, walk_lines};
 ghost use Rattle.crash_text.specs.Lines.{Adds};
 ghost use Rattle.crash_text.specs.Page.{page_of};
@@ -12,7 +11,7 @@ use crate::limits::TextLimits;
 use crate::lines::{Added, push_line};
 use crate::page::Page;
 use crate::words::place_text;
-use crash::{CrashFrame, CrashModule};
+use crash::CrashModule;
 use crash_symbols::{ShownFrame, ShownWalk, first_of};
 use minidump::text::Piece::{Decimal, Hex, Words};
 use stack_walk::WalkEnd;
@@ -44,7 +43,7 @@ pub(crate) fn push_walk(
 
 // Returns the frames of a walk that are printed.
 #[tactic(auto, using(crate::proofs::FrameLemmas::first_values))]
-fn printed_frames<'s, 'l>(
+pub(crate) fn printed_frames<'s, 'l>(
     alloc: Global,
     limits: &TextLimits,
     is_whole: bool,
@@ -58,23 +57,6 @@ fn printed_frames<'s, 'l>(
     } else {
         Vec::from_slice(alloc, first_of(walk.frames.as_slice(), 1))
     }
-}
-
-// Appends the frames of a walk that are printed, without their names, to a list.
-pub(crate) fn push_frames_of(
-    frames: &mut Vec<CrashFrame>,
-    limits: &TextLimits,
-    is_whole: bool,
-    walk: &ShownWalk<'_, '_>,
-) -> Added
-    ensures { OnOk result (frames.new.items ≡ frames.old.items
-        ++ map (λ f. f.frame) (printed_frames limits.now is_whole (shown_of walk.now))) }
-{
-    let printed = printed_frames(*frames.allocator(), limits, is_whole, walk)?;
-    for shown in printed.as_slice() {
-        frames.push(shown.frame)?;
-    }
-    Ok(())
 }
 
 // Appends the lines of frames and calls, each with its number.
@@ -104,22 +86,12 @@ fn push_entry(
     let name = name_text(alloc, entry.function, entry.offset)?;
     let source = source_text(alloc, entry.source)?;
     let place = place_text(alloc, modules, " in no module", entry.frame.module)?;
+    let address = entry.frame.address.unwrap_or(entry.frame.instruction);
     let found = found_text(entry.is_inline, entry.frame.trust);
     push_line(out, &[
-        Words("    #"), Decimal(number as u64), Words(" "), Hex(printed_address(&entry.frame)),
+        Words("    #"), Decimal(number as u64), Words(" "), Hex(address),
         Words(name.as_str()), Words(source.as_str()), Words(place.as_str()), Words(found),
     ])
-}
-
-// Returns the address of a frame: that by which it is looked up, or the instruction if there is
-// none.
-fn printed_address(frame: &CrashFrame) -> u64
-    ensures { result ≡ printed_address frame.now }
-{
-    match frame.address {
-        Some(address) => address,
-        None => frame.instruction,
-    }
 }
 
 // Appends how many frames are not printed, why the walk ends, and how many candidates follow.
@@ -128,33 +100,20 @@ fn push_rest(out: &mut String, limits: &TextLimits, walk: &ShownWalk<'_, '_>) ->
     ensures { Adds out.old out.new (rest_lines limits.now (shown_of walk.now)) result }
 {
     let count = walk.frames.len() + walk.candidates.len();
-    push_hidden(out, limits.frames, count)?;
+    let hidden = count.saturating_sub(limits.frames);
+    push_if_any(out, "    and ", hidden, " more")?;
     push_line(out, &[Words("    end: "), Words(end_text(walk.end))])?;
-    push_candidates(out, walk.candidates.len())
+    push_if_any(out, "    candidates: ", walk.candidates.len(), "")
 }
 
-// Appends how many frames are not printed, if there are any.
-#[rattlefmt::skip]
-#[tactic(auto, unfolding(crate::specs::Frames::hidden_lines))]
-fn push_hidden(out: &mut String, limit: usize, count: usize) -> Added
-    ensures { Adds out.old out.new (hidden_lines limit count) result }
+// Appends the line of a count between its words, if it isn't 0.
+#[tactic(auto, unfolding(crate::specs::Frames::lines_if_any))]
+fn push_if_any<'t>(out: &mut String, before: &'t str, count: usize, after: &'t str) -> Added
+    ensures { Adds out.old out.new (lines_if_any before.now count after.now) result }
 {
-    if limit < count {
-        push_line(out, &[Words("    and "), Decimal((count - limit) as u64), Words(" more")])
-    } else {
-        Ok(())
-    }
-}
-
-// Appends how many candidates there are, if there are any.
-#[tactic(auto, unfolding(crate::specs::Frames::candidate_lines))]
-fn push_candidates(out: &mut String, count: usize) -> Added
-    ensures { Adds out.old out.new (candidate_lines count) result }
-{
-    if count > 0 {
-        push_line(out, &[Words("    candidates: "), Decimal(count as u64)])
-    } else {
-        Ok(())
+    match count {
+        0 => Ok(()),
+        _ => push_line(out, &[Words(before), Decimal(count as u64), Words(after)]),
     }
 }
 

@@ -9,7 +9,7 @@ ghost use Rattle.crash_text.specs.Lines.{Adds, if_some};
 ghost use Rattle.crash_text.specs.Lists.{all_handles, entry_row, environment_lines, error_words};
 ghost use Rattle.crash_text.specs.Lists.{handles_lines, limits_lines, list_lines, lists_lines};
 ghost use Rattle.crash_text.specs.Lists.{memory_lines, process_lists_lines, region_line};
-ghost use Rattle.crash_text.specs.Lists.{unloaded_lines, value_text, variable_row};
+ghost use Rattle.crash_text.specs.Lists.{unloaded_lines, variable_row};
 ghost use Rattle.crash_text.specs.Page.{page_of};
 ghost use Rattle.crash_text.specs.Words.{count_row};
 
@@ -107,7 +107,7 @@ impl Line for UnloadedModule {
     fn push(&self, out: &mut String) -> Added {
         let alloc = *out.allocator();
         let end = end_text(alloc, true, self.end)?;
-        let code = key_text(alloc, ", code ", &self.file, &self.code_id)?;
+        let code = key_text(alloc, ", code ", Some(&self.file), &self.code_id)?;
         push_line(out, &[
             Words("    "), Hex(self.base), Words(end.as_str()), Words(" "),
             Words(self.path.as_str()), Words(code.as_str()),
@@ -284,22 +284,16 @@ impl Line for MinidumpHandleDescriptor {
     #[rattlefmt::skip]
     #[tactic(auto, unfolding(crate::specs::Lists::handle_line))]
     fn push(&self, out: &mut String) -> Added {
-        let value = value_text(*out.allocator(), self.raw.handle().copied())?;
+        let alloc = *out.allocator();
+        let value = match self.raw.handle() {
+            Some(value) => format_pieces(alloc, &[Hex(*value)])?,
+            None => String::from_str(alloc, "no value")?,
+        };
         let (kind, name) = (&self.type_name, &self.object_name);
         push_line(out, &[
             Words("    "), Words(value.as_str()), Words(where_some(" ", kind)), Words(or_empty(kind)),
             Words(where_some(" \"", name)), Words(or_empty(name)), Words(where_some("\"", name)),
         ])
-    }
-}
-
-// Makes the words for the operating system's value of a handle.
-fn value_text(alloc: Global, value: Option<u64>) -> Result<String, AllocError>
-    ensures { IfOk result (λ words. string_bytes words ≡ value_text value) }
-{
-    match value {
-        Some(value) => format_pieces(alloc, &[Hex(value)]),
-        None => String::from_str(alloc, "no value"),
     }
 }
 

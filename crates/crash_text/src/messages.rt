@@ -11,7 +11,7 @@ ghost use Rattle.minidump.specs.Promise.{assertion_stream, crashpad_info_stream}
 ghost use Rattle.minidump.specs.Promise.{mac_crash_info_stream, soft_errors_stream};
 ghost use Rattle.crash.specs.Contents.{message_streams_of};
 ghost use Rattle.crash_text.specs.Lines.{Adds, if_ok};
-ghost use Rattle.crash_text.specs.Messages.{annotation_lines, annotation_row, assertion_line};
+ghost use Rattle.crash_text.specs.Messages.{annotation_row, assertion_line};
 ghost use Rattle.crash_text.specs.Messages.{assertion_row, crashpad_lines, has_annotations};
 ghost use Rattle.crash_text.specs.Messages.{kind_words, mac_number_lines, mac_numbers_lines};
 ghost use Rattle.crash_text.specs.Messages.{mac_text_lines, mac_texts_lines, messages_lines};
@@ -147,7 +147,9 @@ fn push_module(out: &mut String, module: &MinidumpModuleCrashpadInfo) -> Added
 {
     if has_annotations(module) {
         push_module_row(out, module.module_index)?;
-        push_annotations(out, module)
+        push_unnamed(out, module.list_annotations.as_slice())?;
+        push_texts(out, &module.simple_annotations)?;
+        push_objects(out, &module.annotation_objects)
     } else {
         Ok(())
     }
@@ -172,30 +174,15 @@ fn push_module_row(out: &mut String, index: usize) -> Added
     )
 }
 
-// Appends the annotations of a module.
-fn push_annotations(out: &mut String, module: &MinidumpModuleCrashpadInfo) -> Added
-    ensures { Adds out.old out.new (annotation_lines (module_of module.now)) result }
-{
-    push_unnamed(out, module.list_annotations.as_slice())?;
-    push_texts(out, &module.simple_annotations)?;
-    push_objects(out, &module.annotation_objects)
-}
-
 // Appends the lines of texts without names.
+#[tactic(auto, unfolding(crate::specs::Messages::unnamed_row))]
 fn push_unnamed(out: &mut String, texts: &[String]) -> Added
     ensures { Adds out.old out.new (map unnamed_row (map string_bytes texts.now)) result }
 {
     for text in texts {
-        push_unnamed_row(out, text.as_str())?;
+        push_line(out, &[Words("annotation "), Words(text.as_str())])?;
     }
     Ok(())
-}
-
-#[tactic(auto, unfolding(crate::specs::Messages::unnamed_row))]
-fn push_unnamed_row(out: &mut String, text: &str) -> Added
-    ensures { Adds out.old out.new (unnamed_row text.now ∷ []) result }
-{
-    push_line(out, &[Words("annotation "), Words(text)])
 }
 
 // Appends the texts of a dictionary.

@@ -1,13 +1,11 @@
-ghost use Rattle.std.specs.Prelude.{◌≡◌, [], ◌∷◌, IfOk, Some, codes, false, get_or};
-ghost use Rattle.std.specs.Prelude.{string_bytes};
+ghost use Rattle.std.specs.Prelude.{◌≡◌, [], ◌∷◌, IfOk, string_bytes};
 ghost use Rattle.std.specs.Option.{option_copied, option_map};
 ghost use Rattle.crash.specs.Modules.{loaded_of};
 ghost use Rattle.crash_symbols.specs.Shown.{symbolized_of};
 ghost use Rattle.crash_text.specs.Lines.{Adds};
-ghost use Rattle.crash_text.specs.Modules.{HasMarks, address_place, all_modules, each_module};
-ghost use Rattle.crash_text.specs.Modules.{end_text, is_in, is_marked, key_text, module_at};
-ghost use Rattle.crash_text.specs.Modules.{module_line, modules_lines, named_modules};
-ghost use Rattle.crash_text.specs.Modules.{symbols_text, version_text};
+ghost use Rattle.crash_text.specs.Modules.{HasMarks, all_modules, each_module, end_text, is_marked};
+ghost use Rattle.crash_text.specs.Modules.{key_text, module_at, module_line, modules_lines};
+ghost use Rattle.crash_text.specs.Modules.{named_modules, symbols_text, version_text};
 ghost use Rattle.crash_text.specs.Page.{page_of};
 
 use crate::limits::TextLimits;
@@ -125,34 +123,11 @@ fn symbols_text(symbols: Option<&Symbolized<'_, '_>>, index: usize) -> &'static 
 fn is_marked(address: Option<AddressFacts>, marks: &[bool], index: usize) -> bool
     ensures { result ≡ is_marked address marks.now index }
 {
-    is_in(index, address_place(address)) || has_mark(marks, index)
-}
-
-// Tells whether a module has a mark.
-fn has_mark(marks: &[bool], index: usize) -> bool
-    ensures { result ≡ get_or marks.now index false }
-{
-    match marks.get(index) {
-        Some(mark) => *mark,
+    let is_at = match address {
+        Some(facts) => matches!(facts.module, Some((place, _)) if place == index),
         None => false,
-    }
-}
-
-// Returns the module that has the address of the crash, by its index, and the offset in it.
-fn address_place(address: Option<AddressFacts>) -> Option<(usize, u64)>
-    ensures { result ≡ address_place address }
-{
-    address?.module
-}
-
-// Tells whether a place is in the module of an index.
-fn is_in(index: usize, place: Option<(usize, u64)>) -> bool
-    ensures { result ≡ is_in index place }
-{
-    match place {
-        Some(place) => place.0 == index,
-        None => false,
-    }
+    };
+    is_at || matches!(marks.get(index), Some(true))
 }
 
 // Appends the line of a module, with its end if all modules are asked for, and with the words for
@@ -166,8 +141,8 @@ fn push_module(out: &mut String, is_asked: bool, module: &CrashModule, symbols: 
     let alloc = *out.allocator();
     let end = end_text(alloc, is_asked, module.end)?;
     let version = version_text(alloc, &module.version)?;
-    let debug = debug_text(alloc, module)?;
-    let code = key_text(alloc, ", code ", &module.file, &module.code_id)?;
+    let debug = key_text(alloc, ", debug ", module.debug_file.as_ref(), &module.debug_id)?;
+    let code = key_text(alloc, ", code ", Some(&module.file), &module.code_id)?;
     push_line(out, &[
         Words("    "), Hex(module.base), Words(end.as_str()), Words(" "),
         Words(module.path.as_str()), Words(version.as_str()), Words(debug.as_str()),
@@ -202,32 +177,21 @@ fn version_text(alloc: Global, version: &Option<String>) -> Result<String, Alloc
     }
 }
 
-// Makes the words for the debug file of a module, none if it lacks the name or the identifier.
-fn debug_text(alloc: Global, module: &CrashModule) -> Result<String, AllocError>
-    ensures { IfOk result (λ words. string_bytes words ≡ key_text (codes ", debug ") (option_map
-        string_bytes module.now.debug_file) (option_map string_bytes module.now.debug_id)) }
-{
-    match &module.debug_file {
-        Some(file) => key_text(alloc, ", debug ", file, &module.debug_id),
-        None => Ok(String::new(alloc)),
-    }
-}
-
-// Makes the words for the name of a file and an identifier, none if it lacks the identifier.
+// Makes the words for the name of a file and an identifier, none if one of them is lacking.
 #[rattlefmt::skip]
 pub(crate) fn key_text<'x>(
     alloc: Global,
     label: &'x str,
-    file: &'x String,
+    file: Option<&'x String>,
     id: &'x Option<String>,
 ) -> Result<String, AllocError>
     ensures { IfOk result (λ words. string_bytes words ≡ key_text label.now
-        (Some (string_bytes file.now)) (option_map string_bytes id.now)) }
+        (option_map string_bytes (option_copied file.entry)) (option_map string_bytes id.now)) }
 {
-    match id {
-        Some(id) => format_pieces(alloc, &[
+    match (file, id) {
+        (Some(file), Some(id)) => format_pieces(alloc, &[
             Words(label), Words(file.as_str()), Words("/"), Words(id.as_str()),
         ]),
-        None => Ok(String::new(alloc)),
+        _ => Ok(String::new(alloc)),
     }
 }

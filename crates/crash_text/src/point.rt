@@ -1,16 +1,15 @@
 //! The lines of where the thread that crashed stands.
-ghost use Rattle.std.specs.Prelude.{◌≡◌, ◌∷◌, [], IfOk, map, string_bytes};
-ghost use Rattle.std.specs.List.{flat_map, list_any};
+ghost use Rattle.std.specs.Prelude.{◌≡◌, ◌∷◌, [], map};
+ghost use Rattle.std.specs.List.{list_any};
 ghost use Rattle.crash.specs.Addresses.{is_placed};
 ghost use Rattle.crash.specs.Crash.{crash_of};
 ghost use Rattle.crash.specs.Modules.{loaded_of};
 ghost use Rattle.crash.specs.Point.{point_of};
 ghost use Rattle.crash_text.specs.Lines.{Adds};
-ghost use Rattle.crash_text.specs.Point.{byte_words, code_lines, code_row, flag_words, flags_row};
-ghost use Rattle.crash_text.specs.Point.{instruction_lines, is_ordinary, memory_lines};
-ghost use Rattle.crash_text.specs.Point.{placed_heading, placed_lines, placed_registers};
-ghost use Rattle.crash_text.specs.Point.{point_lines, processor_lines, set_lines, set_words};
-ghost use Rattle.crash_text.specs.Point.{word_line, words_lines};
+ghost use Rattle.crash_text.specs.Point.{code_lines, code_row, flags_row, instruction_lines};
+ghost use Rattle.crash_text.specs.Point.{is_ordinary, placed_heading, placed_lines};
+ghost use Rattle.crash_text.specs.Point.{placed_registers, point_lines};
+ghost use Rattle.crash_text.specs.Point.{processor_lines, set_lines, word_line, words_lines};
 
 use crate::addresses::push_address_line;
 use crate::lines::{Added, push_line};
@@ -18,7 +17,6 @@ use crate::words::{place_text, push_text_row, push_words};
 use crash::{AddressFacts, Crash, CrashModule, CrashPoint, StackWord};
 use minidump::text::Piece::{Hex, WideDigits, Words};
 use minidump::text::push_pieces;
-use std::alloc::{AllocError, Global};
 
 // Appends the lines of where the thread that crashed stands, if that is known.
 pub(crate) fn push_point(out: &mut String, crash: &Crash<'_>) -> Added
@@ -27,7 +25,9 @@ pub(crate) fn push_point(out: &mut String, crash: &Crash<'_>) -> Added
     match &crash.point {
         Some(point) => {
             push_processor(out, crash, point)?;
-            push_memory(out, crash, point)
+            push_instruction(out, crash, &point.instruction)?;
+            push_code(out, point.instruction.address, point.code)?;
+            push_stack_words(out, crash.modules.loaded.as_slice(), point.words.as_slice())
         }
         None => Ok(()),
     }
@@ -44,15 +44,6 @@ fn push_processor(out: &mut String, crash: &Crash<'_>, point: &CrashPoint<'_>) -
     Ok(())
 }
 
-// Appends the lines of the instruction pointer, the code and the words.
-fn push_memory(out: &mut String, crash: &Crash<'_>, point: &CrashPoint<'_>) -> Added
-    ensures { Adds out.old out.new (memory_lines (crash_of crash.now) (point_of point.now)) result }
-{
-    push_instruction(out, crash, &point.instruction)?;
-    push_code(out, point.instruction.address, point.code)?;
-    push_stack_words(out, crash.modules.loaded.as_slice(), point.words.as_slice())
-}
-
 // ---- the flags
 
 // Appends the line of the flags and the segments.
@@ -60,48 +51,28 @@ fn push_memory(out: &mut String, crash: &Crash<'_>, point: &CrashPoint<'_>) -> A
 fn push_flags(out: &mut String, flags: &[(&'static str, u64)]) -> Added
     ensures { Adds out.old out.new (flags_row (map (λ r. (r.0.now, r.1)) flags.now) ∷ []) result }
 {
-    let words = flags_words(*out.allocator(), flags)?;
-    push_line(out, &[Words("  "), Words(words.as_str())])
-}
-
-// Makes the words for the flags and the segments.
-fn flags_words(alloc: Global, flags: &[(&'static str, u64)]) -> Result<String, AllocError>
-    ensures { IfOk result (λ words. string_bytes words
-        ≡ flat_map flag_words (map (λ r. (r.0.now, r.1)) flags.now)) }
-{
-    let mut words = String::new(alloc);
+    let mut words = String::new(*out.allocator());
     for flag in flags {
         push_pieces(
             &mut words,
             &[Words("  "), Words(flag.0), Words(" "), Hex(flag.1)],
         )?;
     }
-    Ok(words)
+    push_line(out, &[Words("  "), Words(words.as_str())])
 }
 
 // Appends the line of the flags that are set, if there are any.
 fn push_set(out: &mut String, names: &[&'static str]) -> Added
     ensures { Adds out.old out.new (set_lines (map (λ name. name.now) names.now)) result }
 {
-    match names {
-        [] => Ok(()),
-        _ => {
-            let words = set_words(*out.allocator(), names)?;
-            push_text_row(out, "    flags set:", words.as_str())
-        }
-    }
-}
-
-// Makes the words for flags that are set.
-fn set_words(alloc: Global, names: &[&'static str]) -> Result<String, AllocError>
-    ensures { IfOk result (λ words. string_bytes words
-        ≡ flat_map set_words (map (λ name. name.now) names.now)) }
-{
-    let mut words = String::new(alloc);
+    let mut words = String::new(*out.allocator());
     for name in names {
         push_pieces(&mut words, &[Words(" "), Words(name)])?;
     }
-    Ok(words)
+    match names {
+        [] => Ok(()),
+        _ => push_text_row(out, "    flags set:", words.as_str()),
+    }
 }
 
 // ---- the registers
@@ -196,19 +167,11 @@ fn push_code(out: &mut String, address: u64, code: &[u8]) -> Added
 fn push_code_row(out: &mut String, address: u64, code: &[u8]) -> Added
     ensures { Adds out.old out.new (code_row address code.now ∷ []) result }
 {
-    let bytes = bytes_words(*out.allocator(), code)?;
-    push_line(out, &[Words("bytes at "), Hex(address), Words(":"), Words(bytes.as_str())])
-}
-
-// Makes the words for bytes.
-fn bytes_words(alloc: Global, bytes: &[u8]) -> Result<String, AllocError>
-    ensures { IfOk result (λ words. string_bytes words ≡ flat_map byte_words bytes.now) }
-{
-    let mut words = String::new(alloc);
-    for byte in bytes {
-        push_pieces(&mut words, &[Words(" "), WideDigits(*byte as u64, 2)])?;
+    let mut bytes = String::new(*out.allocator());
+    for byte in code {
+        push_pieces(&mut bytes, &[Words(" "), WideDigits(*byte as u64, 2)])?;
     }
-    Ok(words)
+    push_line(out, &[Words("bytes at "), Hex(address), Words(":"), Words(bytes.as_str())])
 }
 
 // ---- the words

@@ -1,10 +1,8 @@
 //! The words for what the record of an exception says.
 ghost use Rattle.std.specs.Prelude.{◌≡◌, ◌++◌, IfOk, OnOk, string_bytes};
-ghost use Rattle.std.specs.Option.{option_map};
 ghost use Rattle.crash.specs.Cause.{exception_of};
-ghost use Rattle.crash_text.specs.Records.{access_words, described_text, description_words};
-ghost use Rattle.crash_text.specs.Records.{parameters_words, process_words, record_text};
-ghost use Rattle.crash_text.specs.Records.{record_words, sender_words, unless_zero, user_words};
+ghost use Rattle.crash_text.specs.Records.{access_words, described_text, parameters_words};
+ghost use Rattle.crash_text.specs.Records.{process_words, record_text, sender_words, unless_zero};
 
 use crate::lines::Added;
 use crate::words::push_id_text;
@@ -18,25 +16,13 @@ use std::alloc::{AllocError, Global};
 pub(crate) fn record_text(alloc: Global, exception: &CrashException) -> Result<String, AllocError>
     ensures { IfOk result (λ words. string_bytes words ≡ record_text (exception_of exception.now)) }
 {
-    let (flags, parameters) = (exception.flags, exception.parameters.as_slice());
-    match &exception.description {
-        Some(_) => record_words(alloc, exception, 0, &[]),
-        None => record_words(alloc, exception, flags, parameters),
-    }
-}
-
-// Makes the same words with these flags and parameters.
-fn record_words(
-    alloc: Global,
-    exception: &CrashException,
-    flags: u32,
-    parameters: &[u64],
-) -> Result<String, AllocError>
-    ensures { IfOk result (λ words. string_bytes words
-        ≡ record_words (exception_of exception.now) flags parameters.now) }
-{
+    let none: &[u64] = &[];
+    let (flags, parameters) = match &exception.description {
+        Some(_) => (0, none),
+        None => (exception.flags as u64, exception.parameters.as_slice()),
+    };
     let mut words = String::new(alloc);
-    push_unless_zero(&mut words, ", flags ", flags as u64)?;
+    push_unless_zero(&mut words, ", flags ", flags)?;
     push_unless_zero(&mut words, ", nested record at ", exception.nested)?;
     words.push_str(access_words(exception.access))?;
     push_sender(&mut words, exception.sender)?;
@@ -53,19 +39,10 @@ pub(crate) fn described_text(
         (λ words. string_bytes words ≡ described_text (exception_of exception.now)) }
 {
     let mut words = record_text(alloc, exception)?;
-    push_description(&mut words, &exception.description)?;
-    Ok(words)
-}
-
-// Appends LLDB's description of an exception, if there is one.
-fn push_description(words: &mut String, description: &Option<String>) -> Added
-    ensures { OnOk result (string_bytes words.new ≡ string_bytes words.old
-        ++ description_words (option_map string_bytes description.now)) }
-{
-    match description {
-        Some(text) => push_pieces(words, &[Words(", "), Words(text.as_str())]),
-        None => Ok(()),
+    if let Some(text) = &exception.description {
+        push_pieces(&mut words, &[Words(", "), Words(text.as_str())])?;
     }
+    Ok(words)
 }
 
 // Appends a number after its words, unless it is 0.
@@ -99,7 +76,9 @@ fn push_sender(words: &mut String, sender: Option<Sender>) -> Added
     match sender {
         Some(sender) => {
             push_process(words, sender.process)?;
-            push_user(words, sender.user)?;
+            if let Some(user) = sender.user {
+                push_pieces(words, &[Words(", user "), Decimal(user as u64)])?;
+            }
             push_pieces(words, &[Words(", "), Words(sender.code.name())])
         }
         None => Ok(()),
@@ -113,16 +92,6 @@ fn push_process(words: &mut String, id: Option<u32>) -> Added
     match id {
         Some(id) => push_id_text(words, ", sent by process ", id),
         None => words.push_str(", sent by an unknown process"),
-    }
-}
-
-// Appends the user of that process, if it is known.
-fn push_user(words: &mut String, user: Option<u32>) -> Added
-    ensures { OnOk result (string_bytes words.new ≡ string_bytes words.old ++ user_words user) }
-{
-    match user {
-        Some(user) => push_pieces(words, &[Words(", user "), Decimal(user as u64)]),
-        None => Ok(()),
     }
 }
 

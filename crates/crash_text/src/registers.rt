@@ -1,21 +1,18 @@
-ghost use Rattle.std.specs.Prelude.{◌≡◌, [], ◌∷◌, IfOk, map, string_bytes};
-ghost use Rattle.std.specs.List.{flat_map};
+ghost use Rattle.std.specs.Prelude.{◌≡◌, [], ◌∷◌, map};
 ghost use Rattle.std.specs.Option.{option_copied, option_map};
 ghost use Rattle.crash.specs.Cause.{exception_of};
 ghost use Rattle.crash.specs.Contexts.{context_of};
 ghost use Rattle.crash.specs.Crash.{crash_of};
 ghost use Rattle.crash_text.specs.Lines.{Adds};
-ghost use Rattle.crash_text.specs.Registers.{crashed_context, heading_of};
-ghost use Rattle.crash_text.specs.Registers.{heading_row, short_row};
-ghost use Rattle.crash_text.specs.Registers.{known_lines, register_row, register_words};
-ghost use Rattle.crash_text.specs.Registers.{registers_lines, rows, unused_lines};
+ghost use Rattle.crash_text.specs.Registers.{crashed_context, heading_of, heading_row, known_lines};
+ghost use Rattle.crash_text.specs.Registers.{register_row, registers_lines, rows, short_row};
+ghost use Rattle.crash_text.specs.Registers.{unused_lines};
 
 use crate::lines::{Added, push_line};
 use crate::words::push_words;
 use crash::{ContextOrigin, ContextProblem, Crash, CrashContext, CrashException, ShortContext};
 use minidump::text::Piece::{Decimal, Left, Wide, Words};
 use minidump::text::push_pieces;
-use std::alloc::{AllocError, Global};
 
 // Appends why the context of an exception isn't used, and the registers of the thread that crashed:
 // nothing without the system.
@@ -44,16 +41,11 @@ fn push_unused(out: &mut String, problem: Option<ContextProblem>) -> Added
     ensures { Adds out.old out.new (unused_lines problem) result }
 {
     match problem {
-        Some(ContextProblem::NotAccepted { size }) => {
-            if size == 0 {
-                return Ok(());
-            }
-            push_line(out, &[
-                Words("the context of the exception can't be read, "), Decimal(size as u64),
-                Words(" bytes"),
-            ])
-        }
-        Some(ContextProblem::Outside | ContextProblem::NoSystem) | None => Ok(()),
+        Some(ContextProblem::NotAccepted { size }) if size != 0 => push_line(out, &[
+            Words("the context of the exception can't be read, "), Decimal(size as u64),
+            Words(" bytes"),
+        ]),
+        _ => Ok(()),
     }
 }
 
@@ -127,28 +119,19 @@ fn push_rows(out: &mut String, registers: &[(&'static str, u64)], size: usize) -
     Ok(())
 }
 
-// Appends a row of registers.
+// Appends a row of registers: the name of each in three columns, and its value.
+#[rattlefmt::skip]
 #[tactic(auto, unfolding(crate::specs::Registers::register_row))]
 fn push_row(out: &mut String, row: &[(&'static str, u64)], size: usize) -> Added
     ensures { Adds out.old out.new
         (register_row size (map (λ r. (r.0.now, r.1)) row.now) ∷ []) result }
 {
-    let words = row_words(*out.allocator(), row, size)?;
-    push_line(out, &[Words("  "), Words(words.as_str())])
-}
-
-// Makes the words for registers: the name of each in three columns, and its value.
-#[rattlefmt::skip]
-fn row_words(alloc: Global, row: &[(&'static str, u64)], size: usize) -> Result<String, AllocError>
-    ensures { IfOk result (λ words. string_bytes words ≡ flat_map (register_words size)
-        (map (λ r. (r.0.now, r.1)) row.now)) }
-{
-    let mut words = String::new(alloc);
+    let mut words = String::new(*out.allocator());
     let digits = 2 * size.min(8);
     for register in row {
         push_pieces(&mut words, &[
             Words("  "), Left(3, register.0), Words(" "), Wide(register.1, digits),
         ])?;
     }
-    Ok(words)
+    push_line(out, &[Words("  "), Words(words.as_str())])
 }

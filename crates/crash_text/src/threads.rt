@@ -1,16 +1,15 @@
-ghost use Rattle.std.specs.Prelude.{◌≡◌, [], ◌∷◌, ◌++◌, IfOk, OnOk, codes, if◌then◌else◌, map};
+ghost use Rattle.std.specs.Prelude.{◌≡◌, [], ◌∷◌, ◌++◌, IfOk, OnOk, if◌then◌else◌, map};
 ghost use Rattle.std.specs.Option.{option_map};
 ghost use Rattle.crash.specs.Process.{system_of};
 ghost use Rattle.crash.specs.Threads.{thread_value};
-ghost use Rattle.crash_text.specs.Lines.{Adds, if_some};
+ghost use Rattle.crash_text.specs.Lines.{Adds};
 ghost use Rattle.crash_text.specs.Page.{page_of};
-ghost use Rattle.crash_text.specs.Threads.{crashed_lines, each_other, frames_at};
-ghost use Rattle.crash_text.specs.Threads.{frames_in, is_index, is_range, memory_lines};
-ghost use Rattle.crash_text.specs.Threads.{no_walk_row, other_lines, own_lines, range_row};
-ghost use Rattle.crash_text.specs.Threads.{short_lines, shows_all, stack_lines, thread_lines};
-ghost use Rattle.crash_text.specs.Threads.{thread_row};
+ghost use Rattle.crash_text.specs.Threads.{crashed_lines, each_other, frames_at, frames_in};
+ghost use Rattle.crash_text.specs.Threads.{is_index, is_range, no_walk_row, other_lines, own_lines};
+ghost use Rattle.crash_text.specs.Threads.{range_row, short_lines, shows_all, stack_lines};
+ghost use Rattle.crash_text.specs.Threads.{thread_lines, thread_row};
 
-use crate::frames::{push_frames_of, push_walk};
+use crate::frames::{printed_frames, push_walk};
 use crate::limits::TextLimits;
 use crate::lines::{Added, push_line};
 use crate::page::Page;
@@ -140,32 +139,24 @@ fn push_if_short(out: &mut String, thread: &CrashThread) -> Added
 // Appends the lines of the stack of a thread, and of its memory, if all of its frames are asked
 // for.
 fn push_stack_if(out: &mut String, is_whole: bool, thread: &CrashThread) -> Added
-    ensures { Adds out.old out.new
-        (if is_whole then stack_lines (thread_value thread.now) else []) result }
+    ensures { Adds out.old out.new (if is_whole
+        then stack_lines thread.now.stack thread.now.stack_memory else []) result }
 {
     if is_whole {
-        push_named(out, &thread.stack)?;
-        push_memory(out, &thread.stack, &thread.stack_memory)
+        push_stack(out, &thread.stack, &thread.stack_memory)
     } else {
         Ok(())
     }
 }
 
-// Appends the line of a stack as its entry names it, if it does.
-fn push_named(out: &mut String, stack: &Option<StackRange>) -> Added
-    ensures { Adds out.old out.new
-        (if_some (λ range. range_row (codes "stack") range ∷ []) stack.now) result }
+// Appends the line of a stack as its entry names it, if it does, and that of its memory, if it isn't
+// the same.
+fn push_stack(out: &mut String, stack: &Option<StackRange>, memory: &Option<StackRange>) -> Added
+    ensures { Adds out.old out.new (stack_lines stack.now memory.now) result }
 {
-    match stack {
-        Some(range) => push_range(out, "stack", range),
-        None => Ok(()),
+    if let Some(range) = stack {
+        push_range(out, "stack", range)?;
     }
-}
-
-// Appends the line of the memory of a stack, if it isn't the stack as its entry names it.
-fn push_memory(out: &mut String, stack: &Option<StackRange>, memory: &Option<StackRange>) -> Added
-    ensures { Adds out.old out.new (if_some (memory_lines stack.now) memory.now) result }
-{
     match memory {
         Some(range) if is_range(range, stack) => Ok(()),
         Some(range) => push_range(out, "stack memory", range),
@@ -214,9 +205,7 @@ fn no_walk_row(system: &Option<CrashSystem>, problem: Option<ContextProblem>) ->
     match (system, problem) {
         (None, _) => "    no frames without system information",
         (Some(_), Some(ContextProblem::Outside)) => "    its context is outside the file",
-        (Some(_), Some(ContextProblem::NoSystem | ContextProblem::NotAccepted { .. }) | None) => {
-            "    no context that can be read"
-        }
+        (Some(_), _) => "    no context that can be read",
     }
 }
 
@@ -248,9 +237,12 @@ fn push_frames_at(
 {
     let crashing = page.crash.threads.crashing;
     let is_whole = is_index(crashing, number) || shows_all(page.limits, crashing);
-    let walk = shown_walk(*frames.allocator(), thread, number, page.symbols)?;
-    match &walk {
-        Some(walk) => push_frames_of(frames, page.limits, is_whole, walk),
-        None => Ok(()),
+    let alloc = *frames.allocator();
+    if let Some(walk) = shown_walk(alloc, thread, number, page.symbols)? {
+        let printed = printed_frames(alloc, page.limits, is_whole, &walk)?;
+        for shown in printed.as_slice() {
+            frames.push(shown.frame)?;
+        }
     }
+    Ok(())
 }

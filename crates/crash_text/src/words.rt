@@ -135,13 +135,11 @@ pub(crate) fn place_text(
     ensures { IfOk result (λ words. string_bytes words
         ≡ place_text (map loaded_of modules.now) nowhere.now place) }
 {
-    match place {
-        Some((index, offset)) => match modules.get(index) {
-            Some(module) => format_pieces(alloc, &[
-                Words(" in "), Words(module.path.as_str()), Words("+"), Hex(offset),
-            ]),
-            None => String::from_str(alloc, nowhere),
-        },
-        None => String::from_str(alloc, nowhere),
+    if let Some((index, offset)) = place && let Some(module) = modules.get(index) {
+        format_pieces(alloc, &[
+            Words(" in "), Words(module.path.as_str()), Words("+"), Hex(offset),
+        ])
+    } else {
+        String::from_str(alloc, nowhere)
     }
 }

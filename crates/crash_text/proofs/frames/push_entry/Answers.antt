@@ -10,7 +10,7 @@ returns c =
       ← c.in_ok-source.ensures,
       ← c.in_ok-place.ensures,
       ← c.found_text-found.ensures,
-      ← c.printed_address.ensures,
+      ← c.unwrap_or-address.ensures,
       ← c.as_str.ensures.value,
       ← c.as_str-2.ensures.value,
       ← c.as_str-3.ensures.value,

@@ -2,7 +2,7 @@
 use Rattle.std.proofs.Common.{◌≡◌, map, string_bytes, take}
 use Rattle.std.specs.List.{flat_map}
 use Rattle.crash_text.specs.Point.{set_words}
-use Rattle.crash_text.proofs.point.set_words.Given as goal
+use Rattle.crash_text.proofs.point.push_set.Given as goal
 
 abbrev pub invariant-loop-name : goal.invariant-loop-name
 invariant-loop-name l = string_bytes l.words ≡ flat_map set_words (map (λ name. name.now) (take l.name-index l.names))

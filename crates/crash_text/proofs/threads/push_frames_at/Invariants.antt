@@ -1,7 +1,7 @@
 -- The frames so far.
 use Rattle.std.proofs.Common.{◌≡◌, ◌++◌, map, take}
 use Rattle.crash_symbols.specs.Shown.{shown_frame_of}
-use Rattle.crash_text.proofs.frames.push_frames_of.Given as goal
+use Rattle.crash_text.proofs.threads.push_frames_at.Given as goal
 
 abbrev pub invariant-loop-shown : goal.invariant-loop-shown
 invariant-loop-shown l =
