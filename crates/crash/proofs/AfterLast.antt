@@ -1,99 +1,67 @@
 -- What comes after the last separator of a path.
-use Rattle.std.proofs.Common.{◌≡◌, ℕ, ◌+◌, ◌-◌, ◌<◌, ◌≤◌, arith, Bool, true, false, not, ◌||◌, drop, get_or, length, List, ap, refl, sym, ◌∙◌, inl, inr}
+use Rattle.std.proofs.Common.{◌≡◌, ℕ, ◌+◌, ◌-◌, ◌<◌, ◌≤◌, arith, Bool, true, false, not, ◌||◌, drop, get_or, length, List, [], ◌∷◌, None, ap, refl, sym, ◌∙◌, inl, inr, true≢false}
 use Rattle.std.specs.Prelude.{◌==◌}
-use Rattle.std.specs.List.{after_last}
+use Rattle.std.specs.List.{after_last, suffix_len}
+use Rattle.std.specs.Char.{char_set_contains}
 use Rattle.std.specs.Str.{NoCharPasses}
-use Rattle.std.specs.Str.Pattern.{RFindsChar, SplitsAroundMatch}
-use Rattle.std.proofs.lemmas.Bool.{cases_lt, eq-eqb, ne_eqb}
-use Rattle.std.proofs.lemmas.List.{drop-drop, get_or-drop, length-drop}
+use Rattle.std.specs.Str.Pattern.{RFindsBy, SplitsAroundMatch}
+use Rattle.std.proofs.lemmas.Bool.{cases_lt, eq-eqb, eqb-true, ne_eqb}
+use Rattle.std.proofs.lemmas.List.{get_or-drop, length-drop}
 use Rattle.std.proofs.lemmas.List.Sums.{suffix_len_is}
-use Rattle.std.proofs.lemmas.Str.{len_utf8_ascii}
-use Rattle.std.proofs.lemmas.Str.Pattern.{NoCharPasses-char}
+use Rattle.std.proofs.lemmas.Str.{NoCharPasses-byte, len_utf8_ascii}
 
--- a part of a list begins after the last item that passes a test, or is all of it where none does
-pub record IsAfterLast (test : ℕ → Bool) (xs part : List ℕ) : Type 0 where
-  pub from : ℕ
-  pub within : from ≤ length xs
-  pub cut : part ≡ drop from xs
-  pub none : (k : ℕ) → from ≤ k → k < length xs → test (get_or xs k 0) ≡ false
-  pub edge : 0 < from → test (get_or xs (from - 1) 0) ≡ true
+abbrev pub is_separator : ℕ → Bool
+is_separator b = b == 0x2f || b == 0x5c
 
--- it is what comes after that item
-pub after_last_is : (test : ℕ → Bool) (xs part : List ℕ) → IsAfterLast test xs part → part ≡ after_last test xs
-after_last_is test xs part b =
-    let fixed = suffix_len_is (λ x. not (test x)) xs b.from 0 b.within (λ k low high. rw (b.none k low high) refl) (λ some. rw (b.edge some) refl) in
-    b.cut ∙ ap (λ n. drop n xs) (omega (arith, fixed, b.within))
+-- no byte is a separator where no character is one
+no_separator : (xs : List ℕ) (k : ℕ) → NoCharPasses is_separator xs → k < length xs → is_separator (get_or xs k 0) ≡ false
+no_separator xs k none within = elim (cases_lt (get_or xs k 0) 128) [
+  | inl low ↦ NoCharPasses-byte is_separator xs k none within low
+  | inr high ↦ rw (ne_eqb (get_or xs k 0) 0x2f (λ same. omega (arith, same, high)), ne_eqb (get_or xs k 0) 0x5c (λ same. omega (arith, same, high))) refl
+]
 
--- after an ASCII character that a search from the end found
-pub after_found : (c : ℕ) (xs front part : List ℕ) → c < 128 → SplitsAroundMatch (RFindsChar c) xs front part → IsAfterLast (λ b. b == c) xs part
-after_found c xs front part small (i, j, found, at_front, at_part, le, len_front, len_part) = record {
-  from = j;
-  within = omega (arith, len_part);
-  cut = at_part;
-  none = λ k low high.
-      let inside : k - j < length (drop j xs) = omega (arith, length-drop j xs, low, high) in
-      let other = NoCharPasses-char c (drop j xs) (k - j) found.0 small inside in
-      let index : j + (k - j) ≡ k = omega (arith, low) in
-      ne_eqb _ c (λ same. other (get_or-drop j xs (k - j) 0 ∙ ap (λ n. get_or xs n 0) index ∙ same));
-  edge = λ some.
-      let one : j - 1 ≡ i = omega (arith, found.1.ends, len_utf8_ascii c small) in
-      eq-eqb _ c (ap (λ n. get_or xs n 0) one ∙ found.1.byte small);
-}
+-- a separator is an ASCII character
+small : (c : ℕ) → is_separator c ≡ true → c < 128
+small c is = elim (cases_lt c 128) [
+  | inl low ↦ low
+  | inr high ↦ (let none : is_separator c ≡ false = rw (ne_eqb c 0x2f (λ same. omega (arith, same, high)), ne_eqb c 0x5c (λ same. omega (arith, same, high))) refl in cc)
+]
 
--- it was not found
-pub after_nothing : (c : ℕ) (xs : List ℕ) → c < 128 → NoCharPasses (λ d. d == c) xs → IsAfterLast (λ b. b == c) xs xs
-after_nothing c xs small none = record {
-  from = 0;
-  within = omega arith;
-  cut = refl;
-  none = λ k low high. ne_eqb _ c (NoCharPasses-char c xs k none small high);
-  edge = λ some. absurd (omega (arith, some));
-}
+by_test : (c b : ℕ) (t : Bool) → (c == b) ≡ t → (b == c) ≡ t
+by_test c b true same = eq-eqb b c (sym (eqb-true c b same))
+by_test c b false other = ne_eqb b c (λ same. true≢false (sym (eq-eqb c b (sym same)) ∙ other))
 
-neither : (a b : Bool) → a ≡ false → b ≡ false → (a || b) ≡ false
-neither a b h k = rw (h, k) refl
-
-first_true : (a b : Bool) → a ≡ true → (a || b) ≡ true
-first_true a b h = rw h refl
-
-second_true : (a b : Bool) → b ≡ true → (a || b) ≡ true
-second_true true b h = refl
-second_true false b h = h
-
--- after the last of two kinds
-pub after_both : (p q : ℕ → Bool) (xs middle part : List ℕ) → IsAfterLast p xs middle → IsAfterLast q middle part → IsAfterLast (λ b. p b || q b) xs part
-after_both p q xs middle part a b = record {
-  from = a.from + b.from;
-  within = omega (arith, b.within, len, a.within);
-  cut = b.cut ∙ ap (drop b.from) a.cut ∙ drop-drop b.from a.from xs;
-  none = λ k low high.
-      let high_there : k - a.from < length middle = omega (arith, len, low, high) in
-      let low_there : b.from ≤ k - a.from = omega (arith, low) in
-      let before : a.from ≤ k = omega (arith, low) in
-      neither _ _ (a.none k before high) (along (sym (there k before)) (b.none (k - a.from) low_there high_there));
-  edge = λ some. elim (cases_lt 0 b.from) [
-    | inl more ↦ (let before : a.from ≤ a.from + b.from - 1 = omega (arith, more) in
-        let index : b.from - 1 ≡ a.from + b.from - 1 - a.from = omega (arith, more) in
-        second_true _ _ (along_true (ap (λ n. get_or middle n 0) index ∙ sym (there (a.from + b.from - 1) before)) (b.edge more)))
-    | inr none ↦ (let here : a.from + b.from - 1 ≡ a.from - 1 = omega (arith, none) in
-        let some_a : 0 < a.from = omega (arith, some, none) in
-        first_true _ _ (along_p (ap (λ n. get_or xs n 0) (sym here)) (a.edge some_a)))
-  ];
-}
+-- a character is in the list of separators
+listed : (c : ℕ) → char_set_contains (0x2f ∷ 0x5c ∷ []) c ≡ is_separator c
+listed c = rw (by_test c 0x2f (c == 0x2f) refl, by_test c 0x5c (c == 0x5c) refl) (ends (c == 0x2f) (c == 0x5c))
   where
-    len : length middle ≡ length xs - a.from
-    len = ap length a.cut ∙ length-drop a.from xs
+    ends : (a b : Bool) → (a || (b || false)) ≡ (a || b)
+    ends true b = refl
+    ends false true = refl
+    ends false false = refl
 
-    there : (k : ℕ) → a.from ≤ k → get_or xs k 0 ≡ get_or middle (k - a.from) 0
-    there k low =
-        let index : k ≡ a.from + (k - a.from) = omega (arith, low) in
-        ap (λ n. get_or xs n 0) index ∙ sym (get_or-drop a.from xs (k - a.from) 0) ∙ ap (λ l. get_or l (k - a.from) 0) (sym a.cut)
+-- what comes after the separator that a search from the end found
+pub after_found : (xs front part : List ℕ) → SplitsAroundMatch (λ s r. (k : ℕ → Bool) → ((c : ℕ) → char_set_contains (0x2f ∷ 0x5c ∷ []) c ≡ k c) → RFindsBy k s r) xs front part
+    → part ≡ after_last is_separator xs
+after_found xs front part (i, j, finds, at_front, at_part, le, len_front, len_part) =
+    let found = finds is_separator listed in
+    let separator = found.1 in
+    let low : separator.0 < 128 = small separator.0 separator.1 in
+    let one : j - 1 ≡ i = omega (arith, separator.2.ends, len_utf8_ascii separator.0 low) in
+    let none : (k : ℕ) → j ≤ k → k < length xs → is_separator (get_or xs k 0) ≡ false =
+    λ k after within.
+    let inside : k - j < length (drop j xs) = omega (arith, length-drop j xs, after, within) in
+    let index : j + (k - j) ≡ k = omega (arith, after) in
+    sym (ap is_separator (get_or-drop j xs (k - j) 0 ∙ ap (λ n. get_or xs n 0) index)) ∙ no_separator (drop j xs) (k - j) found.0 inside in
+    let fixed = suffix_len_is (λ x. not (is_separator x)) xs j 0 (omega (arith, len_part)) (λ k after within. rw (none k after within) refl)
+    (λ some. rw (ap is_separator (ap (λ n. get_or xs n 0) one ∙ separator.2.byte low) ∙ separator.1) refl) in
+    at_part ∙ ap (λ n. drop n xs) (omega (arith, fixed, len_part))
 
-    along : {m n : ℕ} → m ≡ n → q m ≡ false → q n ≡ false
-    along e h = sym (ap q e) ∙ h
-
-    along_true : {m n : ℕ} → m ≡ n → q m ≡ true → q n ≡ true
-    along_true e h = sym (ap q e) ∙ h
-
-    along_p : {m n : ℕ} → m ≡ n → p m ≡ true → p n ≡ true
-    along_p e h = sym (ap p e) ∙ h
+-- all of a path that has none
+pub after_nothing : (xs : List ℕ) → ((k : ℕ → Bool) → ((c : ℕ) → char_set_contains (0x2f ∷ 0x5c ∷ []) c ≡ k c) → RFindsBy k xs None) → xs ≡ after_last is_separator xs
+after_nothing xs finds =
+    let none : NoCharPasses is_separator xs = finds is_separator listed in
+    let fixed = suffix_len_is (λ x. not (is_separator x)) xs 0 0 (omega arith) (λ k after within. rw (no_separator xs k none within) refl)
+    (λ some. absurd (omega (arith, some))) in
+    let all : 0 ≡ length xs - suffix_len (λ x. not (is_separator x)) xs = omega (arith, fixed) in
+    ap (λ n. drop n xs) all

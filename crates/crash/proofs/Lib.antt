@@ -8,9 +8,7 @@ pub mod LastLaw
 pub mod LastLemmas
 pub mod Lasts
 pub mod LinuxLemmas
-pub mod Mapped
 pub mod ModuleOrder
-pub mod NamedLemmas
 pub mod NumberedFound
 pub mod PaddedLemmas
 pub mod PointLemmas

@@ -102,18 +102,14 @@ address_unless c None (Some s) e = if has_no_address c s e then None
     else Some (crash_address s.os s.cpu e.raw.exception_record)
 address_unless c _ _ e = None
 
--- the same by who sent the signal
-abbrev pub address_in : ContentsValue → Option System → Exception → Option ℕ
-address_in c system e = address_unless c (sender_in system e.raw.exception_record) system e
-
 -- the words for its reason, where the system is known
 abbrev pub reason_in : Lists → Option System → Exception → Option (List ℕ)
 reason_in names system e = option_map
     (λ s. reason_text names (crash_reason names s.os s.cpu e.raw.exception_record)) system
 
--- an exception of a dump with these contents, on its system
-abbrev exception_by : Lists → ContentsValue → Option System → Exception → ExceptionValue
-exception_by names c system e = record {
+-- an exception of a dump with these contents
+abbrev pub exception_in : Lists → ContentsValue → Exception → ExceptionValue
+exception_in names c e = record {
   thread = e.thread_id;
   code = e.raw.exception_record.exception_code;
   flags = e.raw.exception_record.exception_flags;
@@ -121,16 +117,12 @@ exception_by names c system e = record {
   nested = e.raw.exception_record.exception_record;
   parameters = parameters_in e.raw.exception_record;
   description = description_in e.raw.exception_record;
-  access = access_in system e.raw.exception_record;
-  sender = sender_in system e.raw.exception_record;
-  address = address_in c system e;
-  reason = reason_in names system e;
-  context_problem = problem_in system e.order (named_bytes e.raw.thread_context e.context);
+  access = access_in (system_of c) e.raw.exception_record;
+  sender = sender_in (system_of c) e.raw.exception_record;
+  address = address_unless c (sender_in (system_of c) e.raw.exception_record) (system_of c) e;
+  reason = reason_in names (system_of c) e;
+  context_problem = problem_in (system_of c) e.order (named_bytes e.raw.thread_context e.context);
 }
-
--- the same by the contents
-abbrev pub exception_in : Lists → ContentsValue → Exception → ExceptionValue
-exception_in names c e = exception_by names c (system_of c) e
 
 -- the exceptions of a dump, each or why it can't be read
 abbrev pub exceptions_in : Lists → ContentsValue → List (Result ExceptionValue Error)
@@ -144,14 +136,10 @@ address_at c e = option_map (facts_of c) (option_and_then (λ e. e.address) e)
 
 -- ---- all of it
 
--- the cause, by the exceptions and the index of the one that counts
-abbrev cause_by : ContentsValue → List (Result ExceptionValue Error) → Option ℕ → CauseValue
-cause_by c exceptions counts = record {
-  exceptions = exceptions;
-  counts = counts;
-  address = address_at c (counted exceptions counts);
-}
-
 -- the cause of a crash
 abbrev pub cause_in : Lists → ContentsValue → CauseValue
-cause_in names c = cause_by c (exceptions_in names c) (counting c.threads.exceptions)
+cause_in names c = record {
+  exceptions = exceptions_in names c;
+  counts = counting c.threads.exceptions;
+  address = address_at c (counted (exceptions_in names c) (counting c.threads.exceptions));
+}

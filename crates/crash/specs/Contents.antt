@@ -1,17 +1,22 @@
 -- The contents of a minidump: the value of each stream, or the error for which there is none.
-use Rattle.std.specs.Prelude.{ℕ, List, length, map, Option, Result}
+use Rattle.std.specs.Prelude.{ℕ, List, [], length, map, Option, Result, Ok, Err, unwrap_or}
 use Rattle.std.specs.Option.{option_map, option_map_or}
 use Rattle.std.specs.Result.{result_err, result_ok}
 use Rattle.minidump.specs.declared.Error.{Error}
 use Rattle.minidump.specs.declared.MinidumpBreakpadInfo.{MinidumpBreakpadInfo}
 use Rattle.minidump.specs.declared.RawMiscInfo.{RawMiscInfo}
 use Rattle.minidump.specs.declared.format.MINIDUMP_ASSERTION_INFO.{MINIDUMP_ASSERTION_INFO}
+use Rattle.minidump.specs.declared.format.MINIDUMP_MEMORY_DESCRIPTOR64.{MINIDUMP_MEMORY_DESCRIPTOR64}
 use Rattle.minidump.specs.declared.format.MINIDUMP_THREAD_INFO.{MINIDUMP_THREAD_INFO}
 use Rattle.minidump.specs.Below.Contexts.Context.{map_ok}
-use Rattle.minidump.specs.Below.MemoryLists.Unified.{UnifiedRegions, unified_list}
-use Rattle.minidump.specs.Below.MemoryLists.UnifiedInfo.{InfoRegions, info_list}
+use Rattle.minidump.specs.Below.MemoryLists.MapLine.{MapRegion}
+use Rattle.minidump.specs.Below.MemoryLists.Memory.{MemoryRegion}
+use Rattle.minidump.specs.Below.MemoryLists.MemoryInfo.{MemoryInfo}
+use Rattle.minidump.specs.Below.MemoryLists.MemoryList.{PlainMemory}
+use Rattle.minidump.specs.Below.MemoryLists.Unified.{Memory, UnifiedRegions, unified_list}
+use Rattle.minidump.specs.Below.MemoryLists.UnifiedInfo.{InfoRegions, OfInfo, OfMaps, info_list}
 use Rattle.minidump.specs.Below.Modules.Module.{ModuleValue}
-use Rattle.minidump.specs.Below.Modules.ModuleList.{module_list_of}
+use Rattle.minidump.specs.Below.Modules.ModuleList.{ListedModules, module_list_of}
 use Rattle.minidump.specs.Below.Modules.UnloadedModule.{UnloadedValue}
 use Rattle.minidump.specs.Below.Records.BootArgs.{BootArgs}
 use Rattle.minidump.specs.Below.Records.Crashpad.{Crashpad}
@@ -23,6 +28,7 @@ use Rattle.minidump.specs.Below.System.System.{System}
 use Rattle.minidump.specs.Dump.{Dump, stream_of}
 use Rattle.minidump.specs.Exception.{Exception}
 use Rattle.minidump.specs.Exceptions.{exceptions_in}
+use Rattle.minidump.specs.Memory.{first_found}
 use Rattle.minidump.specs.Thread.{Thread}
 use Rattle.minidump.specs.Promise.{system_info_stream, misc_info_stream, breakpad_info_stream}
 use Rattle.minidump.specs.Promise.{linux_cpu_info_stream, linux_lsb_release_stream, exception_stream}
@@ -34,10 +40,9 @@ use Rattle.minidump.specs.Promise.{mac_bootargs_stream, soft_errors_stream, stab
 use Rattle.minidump.specs.Promise.{handle_data_stream, linux_proc_status_stream, linux_environ_stream}
 use Rattle.minidump.specs.Promise.{linux_proc_limits_stream}
 use Rattle.stack_walk.specs.Addresses.{code_bits}
-use Rattle.crash.specs.Space.{first_infos, first_memory, listed_or_none, regions_outside_of}
 use Rattle.crash.specs.declared.contents.SystemStreams.{SystemStreams}
 use Rattle.crash.specs.declared.contents.ThreadStreams.{ThreadStreams}
-use Rattle.crash.specs.declared.space.SpaceStreams.{SpaceStreams}
+use Rattle.crash.specs.declared.contents.SpaceStreams.{SpaceStreams}
 use Rattle.crash.specs.declared.contents.MessageStreams.{MessageStreams}
 use Rattle.crash.specs.declared.contents.ProcessStreams.{ProcessStreams}
 use Rattle.crash.specs.declared.contents.Contents.{Contents}
@@ -96,6 +101,23 @@ thread_streams_of s = record {
   infos = map_ok thread_info_list_stream.value s.infos;
 }
 
+-- the modules, and how many entries have no addresses: none where their list can't be read
+abbrev pub listed_or_none : Result ListedModules Error → ListedModules
+listed_or_none found = unwrap_or (result_ok found) (record { modules = []; without_addresses = 0 })
+
+-- the memory: the 64-bit list, else the plain one, and none where neither can be read
+abbrev pub first_memory : Result (List (MemoryRegion MINIDUMP_MEMORY_DESCRIPTOR64)) Error
+    → Result PlainMemory Error → UnifiedRegions
+first_memory long plain = unwrap_or (first_found long plain) (Memory [])
+
+-- what is known of the regions: the memory information, else the maps, and nothing where neither
+-- can be read
+abbrev pub first_infos : Result (List MemoryInfo) Error → Result (List MapRegion) Error
+    → InfoRegions
+first_infos (Ok infos) maps = OfInfo infos
+first_infos (Err _) (Ok maps) = OfMaps maps
+first_infos (Err _) (Err _) = OfInfo []
+
 -- the streams of the address space: the modules, and how many entries of their list have no
 -- addresses, the memory and what is known of its regions, by the first stream that can be read, the
 -- errors of both, how many regions of the plain list of memory are outside the file, and how many lines
@@ -124,7 +146,8 @@ space_streams_in d = record {
     result_err (stream_of memory64_list_stream d),
     result_err (stream_of memory_list_stream d),
   );
-  regions_outside = regions_outside_of (stream_of memory_list_stream d);
+  regions_outside =
+      option_map_or (λ list. list.outside) (result_ok (stream_of memory_list_stream d)) 0;
   infos = first_infos (stream_of memory_info_list_stream d) (stream_of linux_maps_stream d);
   infos_errors = (
     result_err (stream_of memory_info_list_stream d),

@@ -162,10 +162,6 @@ context_by f = record {
   short = f.1.short;
 }
 
--- the registers of a thread of the list
-abbrev pub context_in : ContentsValue → Option Exception → Thread → Option ContextValue
-context_in c e t = option_map context_by (found_in c e t)
-
 -- ---- why there are none
 
 -- the bytes of a context at a location: where that has no size they are none, wherever it is

@@ -63,23 +63,19 @@ damage_in c directory process cause threads = damage_by directory.entries
     (counted_damage c directory process.comments) c.threads.exceptions cause.exceptions
     threads.threads
 
--- the crash of a dump, by its contents and by what is found in them
-abbrev crash_with : Dump → ContentsValue → DirectoryValue → CauseValue → ThreadsValue → CrashValue
-crash_with d c directory cause threads = record {
-  contents = c;
-  directory = directory;
-  process = process_in d c;
-  cause = cause;
-  threads = threads;
-  point = point_in c threads.crashing;
-  modules = modules_in d c;
-  damage = damage_in c directory (process_in d c) cause threads;
-}
-
 -- the crash of a dump with these contents
 abbrev pub crash_by : Lists → ℕ → Dump → ContentsValue → CrashValue
-crash_by names scan d c =
-    crash_with d c (directory_in d c) (cause_in names c) (threads_in names scan c)
+crash_by names scan d c = record {
+  contents = c;
+  directory = directory_in d c;
+  process = process_in d c;
+  cause = cause_in names c;
+  threads = threads_in names scan c;
+  point = point_in c (threads_in names scan c).crashing;
+  modules = modules_in d c;
+  damage = damage_in c (directory_in d c) (process_in d c) (cause_in names c)
+      (threads_in names scan c);
+}
 
 -- the crash of a file, with the names of codes of these lists and at most so many candidates a
 -- thread, or why the file is no minidump

@@ -1,10 +1,9 @@
 -- What the header and the directory of a dump say: when it was written, which streams it has, each
 -- with the error for which it can't be read, and how many entries are lost: they don't decide, and lie
 -- outside the file.
-use Rattle.std.specs.Prelude.{◌≡◌, ◌==◌, ◌&&◌, ℕ, Bool, List, count_by, is_none, map, not, Option}
-use Rattle.std.specs.Prelude.{Some, None, Result, Err}
-use Rattle.std.specs.List.{last_or}
-use Rattle.std.specs.Option.{option_and_then, option_map_or}
+use Rattle.std.specs.Prelude.{◌≡◌, ◌-◌, ◌==◌, ◌&&◌, ℕ, Bool, List, count_by, is_none, length, map, not, Option}
+use Rattle.std.specs.Prelude.{Result, Err, slice_get, unwrap_or}
+use Rattle.std.specs.Option.{option_map_or}
 use Rattle.std.specs.Result.{result_err}
 use Rattle.minidump.specs.declared.Error.{Error}
 use Rattle.minidump.specs.declared.Error.TheVariants.{StreamNotFound}
@@ -44,7 +43,7 @@ raw_error d number = result_err (raw_stream number d)
 -- `StreamNotFound` where there are none
 abbrev pub last_error : List (Result Exception Error) → Option Error
 last_error exceptions =
-    option_and_then result_err (last_or (Some (Err StreamNotFound)) exceptions)
+    result_err (unwrap_or (slice_get exceptions (length exceptions - 1)) (Err StreamNotFound))
 
 -- that is the error of the stream of a dump
 abbrev pub HasErrorOfStream : Dump → Type 0

@@ -110,11 +110,3 @@ exception_walked c e = option_and_then
 -- what is found in a stack by a context, with at most so many candidates
 abbrev pub walk_from : ℕ → StackValue × MinidumpContext → CrashWalkValue
 walk_from scan w = walk_by w.0 (stack.walk_in w.0 w.1 scan)
-
--- the walk of a thread of the list
-abbrev pub thread_walk : ContentsValue → Option Exception → ℕ → Thread → Option CrashWalkValue
-thread_walk c e scan t = option_map (walk_from scan) (thread_walked c e t)
-
--- the walk of the thread of an exception, which the list lacks
-abbrev pub exception_walk : ContentsValue → ℕ → Exception → Option CrashWalkValue
-exception_walk c scan e = option_map (walk_from scan) (exception_walked c e)

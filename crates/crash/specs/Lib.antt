@@ -1,7 +1,6 @@
 -- The definitions that the contracts cite: the crash of a file is `crash_in` of Crash.antt.
 pub mod FileName
 pub mod Missing
-pub mod Space
 pub mod Contents
 pub mod Last
 pub mod Directory
@@ -18,10 +17,7 @@ pub mod Addresses
 pub mod Cause
 pub mod Frames
 pub mod Threads
-pub mod SetFlags
 pub mod Point
-pub mod UnreadableModules
 pub mod Modules
-pub mod Texts
 pub mod Damage
 pub mod Crash

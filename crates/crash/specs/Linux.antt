@@ -40,21 +40,18 @@ abbrev pub unit_in : List (List ℕ) → Option (List ℕ)
 unit_in [] = None
 unit_in (word ∷ words) = Some (utf8_lossy word)
 
--- the limit of the words of its name, of two limits, and of the words after these
-abbrev pub limit_by : List (List ℕ) → List ℕ → List ℕ → List (List ℕ) → LimitValue
-limit_by name soft hard words = record {
-  name = joined_words name;
-  soft = utf8_lossy soft;
-  hard = utf8_lossy hard;
-  unit = unit_in words;
-}
-
--- the limit of the words of its name, and of the words from the soft limit on
+-- the limit of the words of its name, and of the words from the soft limit on: this, the hard one, and those
+-- of what they count
 abbrev pub limit_from : List (List ℕ) → List (List ℕ) → Option LimitValue
 limit_from name [] = None
 limit_from name (soft ∷ []) = None
 limit_from name (soft ∷ hard ∷ words) =
-    if is_limit hard then Some (limit_by name soft hard words) else None
+    if is_limit hard then Some (record {
+      name = joined_words name;
+      soft = utf8_lossy soft;
+      hard = utf8_lossy hard;
+      unit = unit_in words;
+    }) else None
 
 -- the limit of the words of a line: the soft one is the first word that is a limit
 abbrev pub words_limit : List (List ℕ) → Option LimitValue

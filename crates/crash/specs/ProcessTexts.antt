@@ -102,15 +102,11 @@ abbrev pub is_damaged : Endian → List ℕ → Bool
 is_damaged order bytes =
     is_none (wide_text order bytes) || is_cut (length bytes) (units_in order bytes)
 
--- the comments of these two streams
-abbrev comments_by : Endian → Option (List ℕ) → Option (List ℕ) → CommentsValue
-comments_by order narrow wide = record {
-  narrow = option_map comment_text narrow;
-  wide = option_and_then (wide_text order) wide;
-  is_wide_damaged = option_map_or (is_damaged order) wide false;
-}
-
 -- the comments of the streams CommentStreamA and CommentStreamW
 abbrev pub comments_in : Dump → CommentsValue
-comments_in d = comments_by d.order (result_ok (raw_stream (number_of CommentStreamA) d))
-    (result_ok (raw_stream (number_of CommentStreamW) d))
+comments_in d = record {
+  narrow = option_map comment_text (result_ok (raw_stream (number_of CommentStreamA) d));
+  wide = option_and_then (wide_text d.order) (result_ok (raw_stream (number_of CommentStreamW) d));
+  is_wide_damaged = option_map_or (is_damaged d.order)
+      (result_ok (raw_stream (number_of CommentStreamW) d)) false;
+}

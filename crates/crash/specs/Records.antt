@@ -28,10 +28,6 @@ parameters_in r = take (min r.number_parameters 15) r.exception_information
 
 -- ---- the text of LLDB
 
--- the bytes of all parameters, each from its lowest byte on
-abbrev parameter_bytes : MINIDUMP_EXCEPTION → List ℕ
-parameter_bytes r = flat_map (to_le_bytes w64) r.exception_information
-
 -- a text, with U+FFFD for what isn't UTF-8: none where there are no bytes
 abbrev text_unless_empty : List ℕ → Option (List ℕ)
 text_unless_empty bytes = if length bytes == 0 then None else Some (utf8_lossy bytes)
@@ -41,10 +37,10 @@ text_unless_empty bytes = if length bytes == 0 then None else Some (utf8_lossy b
 abbrev has_lldb_flag : MINIDUMP_EXCEPTION → Bool
 has_lldb_flag r = r.exception_flags == 0x4c4c_4442
 
--- that text, before its first 0, if there is one
+-- that text, before its first 0, if there is one, of the bytes of all parameters, each from its lowest byte on
 abbrev pub description_in : MINIDUMP_EXCEPTION → Option (List ℕ)
-description_in r = if has_lldb_flag r
-    then text_unless_empty (before_first (λ b. b == 0) (parameter_bytes r)) else None
+description_in r = if has_lldb_flag r then text_unless_empty (before_first (λ b. b == 0)
+    (flat_map (to_le_bytes w64) r.exception_information)) else None
 
 -- ---- accesses
 

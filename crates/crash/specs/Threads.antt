@@ -1,5 +1,5 @@
 -- The threads of a process, and which of them crashed.
-use Rattle.std.specs.Prelude.{ℕ, ◌==◌, ◌++◌, Bool, false, true, List, [], ◌∷◌, length, map}
+use Rattle.std.specs.Prelude.{ℕ, ◌==◌, ◌++◌, Bool, false, true, List, [], ◌∷◌, map}
 use Rattle.std.specs.Prelude.{is_some, Option, Some, None, Result, Ok, Err}
 use Rattle.std.specs.Prelude.{if◌then◌else◌, slice_get, string_bytes, unwrap_or}
 use Rattle.std.specs.Option.{option_and_then, option_map, option_map_or}
@@ -24,11 +24,11 @@ use Rattle.crash.specs.declared.threads.CrashThreads.{CrashThreads}
 use Rattle.crash.specs.declared.stacks.StackRange.{StackRange}
 use Rattle.crash.specs.Contents.{ContentsValue}
 use Rattle.crash.specs.declared.contexts.ContextOrigin.TheVariants.{OfException}
-use Rattle.crash.specs.Contexts.{ContextValue, context_at, context_by, context_in, context_of}
+use Rattle.crash.specs.Contexts.{ContextValue, context_at, context_by, context_of, found_in}
 use Rattle.crash.specs.Contexts.{named_bytes, of_origin, problem_in, system_of}
 use Rattle.crash.specs.Counting.{counting_exception}
-use Rattle.crash.specs.Frames.{CrashWalkValue, crash_walk_of, exception_walk, exception_walked}
-use Rattle.crash.specs.Frames.{thread_walk, thread_walked}
+use Rattle.crash.specs.Frames.{CrashWalkValue, crash_walk_of, exception_walked, thread_walked}
+use Rattle.crash.specs.Frames.{walk_from}
 use Rattle.crash.specs.Last.{last_index}
 use Rattle.crash.specs.Stacks.{is_outside, named_stack, stack_memory}
 
@@ -86,14 +86,10 @@ abbrev pub error_on : Os → Cpu → Lists → UnifiedRegions → Thread → Opt
 error_on Windows cpu names memory t = error_in names memory (last_error_address cpu t.raw.teb)
 error_on _ cpu names memory t = None
 
--- the same where the system is known
-abbrev pub last_error_code : Lists → ContentsValue → Thread → Option CrashReason
-last_error_code names c t =
-    option_and_then (λ s. error_on s.os s.cpu names c.space.memory t) (system_of c)
-
--- the words for it
+-- the words for it, where the system is known
 abbrev pub last_error_in : Lists → ContentsValue → Thread → Option (List ℕ)
-last_error_in names c t = option_map (reason_text names) (last_error_code names c t)
+last_error_in names c t = option_map (reason_text names)
+    (option_and_then (λ s. error_on s.os s.cpu names c.space.memory t) (system_of c))
 
 -- a thread of the list, by the exception that counts
 abbrev pub thread_in : Lists → ℕ → ContentsValue → Option Exception → Thread → ThreadValue
@@ -101,12 +97,12 @@ thread_in names scan c e t = record {
   id = t.raw.thread_id;
   is_listed = true;
   name = name_in c.threads.names t.raw.thread_id;
-  context = context_in c e t;
+  context = option_map context_by (found_in c e t);
   context_problem = problem_in (system_of c) t.order (named_bytes t.raw.thread_context t.context);
   stack = named_stack t.raw.stack;
   stack_memory = stack_memory c t;
   is_stack_outside = is_outside t;
-  walk = thread_walk c e scan t;
+  walk = option_map (walk_from scan) (thread_walked c e t);
   last_error = last_error_in names c t;
 }
 
@@ -137,7 +133,7 @@ extra_in scan c e = record {
   stack = None;
   stack_memory = None;
   is_stack_outside = false;
-  walk = exception_walk c scan e;
+  walk = option_map (walk_from scan) (exception_walked c e);
   last_error = None;
 }
 
@@ -150,16 +146,12 @@ all_threads names scan c e = map (thread_in names scan c e) (entries_in c.thread
 abbrev pub crashing_at : List ThreadValue → Option Exception → Option ℕ
 crashing_at threads e = option_and_then (λ e. last_index (λ t. t.id == e.thread_id) threads) e
 
--- the threads of a process, with at most so many candidates each, by such an exception
-abbrev pub threads_by : Lists → ℕ → ContentsValue → Option Exception → ThreadsValue
-threads_by names scan c e = record {
-  threads = all_threads names scan c e;
-  crashing = crashing_at (all_threads names scan c e) e;
-}
-
--- the same by the exception that counts
+-- the threads of a process, with at most so many candidates each
 abbrev pub threads_in : Lists → ℕ → ContentsValue → ThreadsValue
-threads_in names scan c = threads_by names scan c (counting_exception c)
+threads_in names scan c = record {
+  threads = all_threads names scan c (counting_exception c);
+  crashing = crashing_at (all_threads names scan c (counting_exception c)) (counting_exception c);
+}
 
 -- the thread that crashed, with its index
 abbrev pub crashed_thread : ThreadsValue → Option (ℕ × ThreadValue)
@@ -177,10 +169,7 @@ abbrev pub all_walked : ContentsValue → Option Exception → List (Option (Sta
 all_walked c e =
     map (thread_walked c e) (entries_in c.threads.threads) ++ (extra_walked c e ∷ [])
 
--- those of the thread of an index
-abbrev pub walked_by : ContentsValue → Option Exception → ℕ → Option (StackValue × MinidumpContext)
-walked_by c e index = option_and_then (λ w. w) (slice_get (all_walked c e) index)
-
--- the same by the exception that counts
+-- those of the thread of an index, by the exception that counts
 abbrev pub walked_at : ContentsValue → ℕ → Option (StackValue × MinidumpContext)
-walked_at c index = walked_by c (counting_exception c) index
+walked_at c index =
+    option_and_then (λ w. w) (slice_get (all_walked c (counting_exception c)) index)

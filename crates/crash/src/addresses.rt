@@ -1,8 +1,7 @@
 //! What is known of an address.
-ghost use Rattle.std.specs.Prelude.{◌≡◌, [], map, unwrap_or};
+ghost use Rattle.std.specs.Prelude.{◌≡◌, [], unwrap_or};
 ghost use Rattle.std.specs.Result.{result_ok};
 ghost use Rattle.minidump.specs.Below.Contexts.Context.{map_ok};
-ghost use Rattle.minidump.specs.Below.Modules.UnloadedModule.{unloaded_of};
 ghost use Rattle.minidump.specs.Promise.{thread_list_stream, unloaded_module_list_stream};
 ghost use Rattle.crash.specs.Addresses.{facts_of, has_code, is_canonical, is_placed, memory_at};
 ghost use Rattle.crash.specs.Addresses.{stack_above, stack_at, state_of_number, unloaded_at};
@@ -11,15 +10,13 @@ ghost use Rattle.crash.specs.Contexts.{system_of};
 
 use crate::contents::Contents;
 use crate::last::last_index;
+use crate::modules::unloaded_entries;
 use crate::stacks::named_stack;
-use crate::thread_facts::entries_of;
+use crate::threads::entries_of;
 use bitflags::Flags;
 use minidump::format::{MemoryProtection, MemoryState};
 use minidump::system_info::Cpu;
-use minidump::{
-    Error, MinidumpThreadList, MinidumpUnloadedModule, MinidumpUnloadedModuleList, Region,
-    UnifiedMemoryInfo,
-};
+use minidump::{Error, MinidumpThreadList, MinidumpUnloadedModuleList, Region, UnifiedMemoryInfo};
 use stack_walk::{is_code, module_place};
 
 /// What is known of an address.
@@ -116,20 +113,13 @@ fn unloaded_at(list: &Result<MinidumpUnloadedModuleList, Error>, address: u64) -
     ensures { result ≡ unloaded_at (unwrap_or
         (result_ok (map_ok unloaded_module_list_stream.value list.now)) []) address }
 {
-    match list {
-        Ok(list) => last_unloaded(list.iter().as_slice(), address),
-        Err(_) => None,
-    }
-}
-
-// Returns the index of the last of unloaded modules that contains an address.
-fn last_unloaded(modules: &[MinidumpUnloadedModule], address: u64) -> Option<usize>
-    ensures { result ≡ unloaded_at (map unloaded_of modules.now) address }
-{
-    last_index(modules, |unloaded| match unloaded.memory_range() {
-        Some(range) => range.start <= address && address <= range.end,
-        None => false,
-    })
+    last_index(
+        unloaded_entries(list),
+        |unloaded| match unloaded.memory_range() {
+            Some(range) => range.start <= address && address <= range.end,
+            None => false,
+        },
+    )
 }
 
 // ---- stacks

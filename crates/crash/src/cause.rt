@@ -6,14 +6,13 @@ ghost use Rattle.crash.specs.Cause.{address_at, address_unless, cause_in, cause_
 ghost use Rattle.crash.specs.Cause.{counted_exception, exception_in, exception_of, is_instruction};
 ghost use Rattle.crash.specs.Cause.{reason_in};
 ghost use Rattle.crash.specs.Contents.{contents_of};
-ghost use Rattle.crash.specs.Counting.{counted};
+ghost use Rattle.crash.specs.Counting.{counted, counting, counting_exception};
 
 use crate::addresses::{AddressFacts, facts_of, has_code};
 use crate::contents::Contents;
 use crate::contexts::{ContextProblem, context_on, named_bytes, problem_in};
-use crate::counting::counting;
-use crate::each::{MakeItem, make_items};
 use crate::frames::context_of;
+use crate::last::last_index;
 use crate::point::instruction_pointer_of;
 use crate::records::{
     Access, Sender, access_of, description_of, lacks_address, may_be_instruction, parameters_of,
@@ -110,8 +109,10 @@ pub(crate) fn cause_of(
         (λ cause. cause_of cause ≡ cause_in names.now (contents_of contents.now)) }
     ensures memory { IsOkUnless result Error.OutOfMemory }
 {
-    let each = EachException { contents, names };
-    let exceptions = make_items(alloc, &each, contents.threads.exceptions.as_slice())?;
+    let mut exceptions = Vec::new(alloc);
+    for item in contents.threads.exceptions.as_slice() {
+        exceptions.push(exception_of(alloc, contents, names, item)?)?;
+    }
     let counts = counting(contents.threads.exceptions.as_slice());
     let address = address_of(contents, exceptions.as_slice(), counts);
     Ok(CrashCause {
@@ -121,59 +122,27 @@ pub(crate) fn cause_of(
     })
 }
 
-// An exception of the list, or why it can't be read.
-#[derive(Clone, Copy)]
-struct EachException<'l, 'a, 'n> {
-    contents: &'l Contents<'a>,
-    names: &'l CodeNames<'n>,
-}
-
-impl<'a> MakeItem<Result<MinidumpException<'a>, Error>> for EachException<'_, 'a, '_> {
-    ghost use Rattle.std.specs.Prelude.{Result};
-    ghost use Rattle.minidump.specs.declared.Error.{Error};
-    ghost use Rattle.minidump.specs.Exception.{Exception};
-    ghost use Rattle.crash.specs.Cause.{ExceptionValue};
-
-    type Made = Result<CrashException, Error>;
-
-    ghost Given = { Result Exception Error };
-
-    ghost given_of = { map_ok exception_stream.value };
-
-    ghost Value = { Result ExceptionValue Error };
-
-    ghost value_of = { map_ok exception_of };
-
-    ghost made_of = { λ e. map_ok (exception_in e.names.now (contents_of e.contents.now)) };
-
-    fn make_item(
-        &self,
-        alloc: Global,
-        item: &Result<MinidumpException<'a>, Error>,
-    ) -> Result<Result<CrashException, Error>, Error> {
-        match item {
-            Ok(exception) => Ok(Ok(exception_of(alloc, self.contents, exception, self.names)?)),
-            Err(error) => Ok(Err(*error)),
-        }
-    }
-}
-
-// Returns an exception.
+// Returns an exception, or why it can't be read.
 fn exception_of(
     alloc: Global,
     contents: &Contents<'_>,
-    exception: &MinidumpException<'_>,
     names: &CodeNames<'_>,
-) -> Result<CrashException, Error>
-    ensures exception { IfOk result (λ e. exception_of e ≡ exception_in names.now
-        (contents_of contents.now) (exception_stream.value exception.now)) }
+    item: &Result<MinidumpException<'_>, Error>,
+) -> Result<Result<CrashException, Error>, Error>
+    ensures exception { IfOk result (λ e. map_ok exception_of e
+        ≡ map_ok (exception_in names.now (contents_of contents.now))
+        (map_ok exception_stream.value item.now)) }
     ensures memory { IsOkUnless result Error.OutOfMemory }
 {
+    let exception = match item {
+        Ok(exception) => exception,
+        Err(error) => return Ok(Err(*error)),
+    };
     let system = contents.system.system.as_ref().ok();
     let record = &exception.raw.exception_record;
     let sender = sender_of(system, record);
     let bytes = named_bytes(&exception.raw.thread_context, exception.context_bytes());
-    Ok(CrashException {
+    Ok(Ok(CrashException {
         thread: exception.thread_id,
         code: record.exception_code,
         flags: record.exception_flags,
@@ -186,7 +155,7 @@ fn exception_of(
         address: address_unless(contents, sender, exception, system),
         reason: reason_of(alloc, exception, system, names)?,
         context_problem: problem_in(contents, exception.endian(), bytes),
-    })
+    }))
 }
 
 // Returns the address of the crash where the system is known, unless a process sent the signal, or the
@@ -275,4 +244,30 @@ fn counted(
         Ok(exception) => Some(exception),
         Err(_) => None,
     }
+}
+
+// ---- which exception counts
+
+// Returns the exception that counts.
+pub(crate) fn counting_exception<'l, 'a>(
+    contents: &'l Contents<'a>,
+) -> Option<&'l MinidumpException<'a>>
+    ensures { option_map exception_stream.value (option_copied result)
+        ≡ counting_exception (contents_of contents.now) }
+{
+    let exceptions = contents.threads.exceptions.as_slice();
+    exceptions.get(counting(exceptions)?)?.as_ref().ok()
+}
+
+// Returns the index of the exception that counts: the last whose code isn't 0, else the last that can
+// be read.
+fn counting(exceptions: &[Result<MinidumpException<'_>, Error>]) -> Option<usize>
+    ensures { result ≡ counting (map (map_ok exception_stream.value) exceptions.now) }
+{
+    let with_code = last_index(exceptions, |exception| match exception {
+        Ok(exception) => exception.raw.exception_record.exception_code != 0,
+        Err(_) => false,
+    });
+    let read = last_index(exceptions, |exception| exception.is_ok());
+    with_code.or(read)
 }

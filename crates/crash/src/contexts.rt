@@ -4,7 +4,7 @@ ghost use Rattle.minidump.specs.Promise.{exception_stream, system_info_stream};
 ghost use Rattle.minidump.specs.Thread.{accepted_context, thread_of};
 ghost use Rattle.crash.specs.Contents.{contents_of};
 ghost use Rattle.crash.specs.Contexts.{any_context, context_at, context_by, context_of, context_on};
-ghost use Rattle.crash.specs.Contexts.{found_in, has_general, lengths, named_bytes, of_origin, old_on};
+ghost use Rattle.crash.specs.Contexts.{found_in, has_general, lengths, named_bytes, old_on};
 ghost use Rattle.crash.specs.Contexts.{padded, problem_in, register_values, short_context, system_of};
 
 use crate::contents::Contents;
@@ -222,16 +222,6 @@ pub(crate) fn found_context(
         (Some(excepted), _) => Some((ContextOrigin::OfException, excepted)),
         (None, own) => Some((ContextOrigin::OfThread, own?)),
     }
-}
-
-// Returns a context with whose it is.
-pub(crate) fn of_origin(
-    origin: ContextOrigin,
-    context: Option<FoundContext>,
-) -> Option<(ContextOrigin, FoundContext)>
-    ensures { result ≡ of_origin origin context }
-{
-    Some((origin, context?))
 }
 
 // Returns the registers of a context, whosever it is.

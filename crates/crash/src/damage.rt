@@ -1,11 +1,18 @@
-ghost use Rattle.std.specs.Prelude.{◌≡◌, ◌-◌, IfOk, IsOkUnless, length, map, take};
+ghost use Rattle.std.specs.Prelude.{◌≡◌, ◌-◌, ◌≤◌, IfOk, IsOkUnless, length, map, take};
+ghost use Rattle.std.specs.Option.{option_copied};
 ghost use Rattle.minidump.specs.Below.Contexts.Context.{map_ok};
-ghost use Rattle.minidump.specs.Promise.{exception_stream, mac_crash_info_stream};
+ghost use Rattle.minidump.specs.Below.Records.Handles.{handle_of};
+ghost use Rattle.minidump.specs.Below.Records.NamedText.{lacks_text};
+ghost use Rattle.minidump.specs.Promise.{assertion_stream, exception_stream, handle_data_stream};
+ghost use Rattle.minidump.specs.Promise.{mac_bootargs_stream, mac_crash_info_stream};
+ghost use Rattle.minidump.specs.Promise.{system_info_stream, thread_names_stream};
 ghost use Rattle.crash.specs.Cause.{exception_of};
 ghost use Rattle.crash.specs.Contents.{contents_of};
-ghost use Rattle.crash.specs.Damage.{context_damage, counted_damage, damage_by, exception_damage};
-ghost use Rattle.crash.specs.Damage.{exception_error, if_any, parameters_damage, records_lacking};
-ghost use Rattle.crash.specs.Damage.{stack_damage, stream_damage, texts_damage};
+ghost use Rattle.crash.specs.Damage.{assertion_lacking, boot_args_lacking, context_damage};
+ghost use Rattle.crash.specs.Damage.{counted_damage, damage_by, exception_damage, exception_error};
+ghost use Rattle.crash.specs.Damage.{handles_lacking, if_any, names_lacking, parameters_damage};
+ghost use Rattle.crash.specs.Damage.{records_lacking, stack_damage, stream_damage, system_lacking};
+ghost use Rattle.crash.specs.Damage.{texts_damage, threads_lacking};
 ghost use Rattle.crash.specs.Directory.{directory_of};
 ghost use Rattle.crash.specs.ProcessTexts.{comments_of};
 ghost use Rattle.crash.specs.Threads.{thread_value};
@@ -15,15 +22,14 @@ use crate::contents::Contents;
 use crate::contexts::ContextProblem;
 use crate::directory::{CrashDirectory, StreamEntry};
 use crate::process_texts::Comments;
-use crate::texts::{
-    assertion_lacking, boot_args_lacking, handles_lacking, system_lacking, threads_lacking,
-};
 use crate::threads::CrashThread;
 use minidump::format::MINIDUMP_STREAM_TYPE;
 use minidump::{
-    Error, MinidumpAssertion, MinidumpException, MinidumpHandleDataStream, MinidumpMacBootargs,
-    MinidumpMacCrashInfo, MinidumpStream, MinidumpSystemInfo, MinidumpThreadNames,
+    Error, MinidumpAssertion, MinidumpException, MinidumpHandleDataStream,
+    MinidumpHandleDescriptor, MinidumpMacBootargs, MinidumpMacCrashInfo, MinidumpStream,
+    MinidumpSystemInfo, MinidumpThreadNames,
 };
+use minidump_bytes::as_text;
 use std::alloc::{AllocError, Global};
 
 /// Something of a dump that is there and can't be read, whether anything else stands in for it or
@@ -274,4 +280,82 @@ fn stack_damage(thread: &CrashThread) -> Option<Damage>
 {
     let damage = Damage::Stack { thread: thread.id };
     thread.is_stack_outside.then_some(damage)
+}
+
+// ---- texts that can't be read
+
+// Returns how many texts of the system information can't be read: that of the service pack.
+fn system_lacking(system: &Result<MinidumpSystemInfo, Error>) -> u64
+    ensures { result ≡ system_lacking (map_ok system_info_stream.value system.now) }
+{
+    system.as_ref().map_or(0, |system| {
+        u64::from(lacks_text(system.raw.csd_version_rva as u64, system.csd_version()))
+    })
+}
+
+// Returns how many names of handles and of their types can't be read.
+fn handles_lacking(found: &Result<MinidumpHandleDataStream, Error>) -> u64
+    ensures { result ≡ handles_lacking (map_ok handle_data_stream.value found.now) }
+{
+    let Ok(stream) = found else {
+        return 0;
+    };
+    let handles = stream.handles.as_slice();
+    let mut count = 0;
+    for handle in handles {
+        count += names_lacking(handle);
+    }
+    count
+}
+
+// Returns how many names of threads can't be read.
+fn threads_lacking(names: &Result<MinidumpThreadNames, Error>) -> u64
+    ensures { result ≡ threads_lacking (map_ok thread_names_stream.value names.now) }
+{
+    names.as_ref().map_or(0, |names| names.unreadable_names())
+}
+
+// Returns how many texts of an assertion can't be read: its expression, its function and its file.
+fn assertion_lacking(
+    alloc: Global,
+    assertion: &Result<MinidumpAssertion, Error>,
+) -> Result<u64, Error>
+    ensures count { IfOk result
+        (λ count. count ≡ assertion_lacking (map_ok assertion_stream.value assertion.now)) }
+    ensures memory { IsOkUnless result Error.OutOfMemory }
+{
+    let Ok(assertion) = assertion else {
+        return Ok(0);
+    };
+    let expression = assertion.expression(alloc)?;
+    let function = assertion.function(alloc)?;
+    let file = assertion.file(alloc)?;
+    Ok(u64::from(expression.is_none()) + u64::from(function.is_none()) + u64::from(file.is_none()))
+}
+
+// Returns how many texts of macOS's boot arguments can't be read.
+fn boot_args_lacking(arguments: &Result<MinidumpMacBootargs, Error>) -> u64
+    ensures { result ≡ boot_args_lacking (map_ok mac_bootargs_stream.value arguments.now) }
+{
+    arguments.as_ref().map_or(0, |found| {
+        u64::from(lacks_text(found.raw.bootargs, as_text(&found.bootargs)))
+    })
+}
+
+// Returns how many names of a handle can't be read: that of its type, and its own.
+fn names_lacking(handle: &MinidumpHandleDescriptor) -> u64
+    ensures count { result ≡ names_lacking (handle_of handle.now) }
+    ensures few { result ≤ 2 }
+{
+    let type_rva = handle.raw.type_name_rva().copied().unwrap_or(0);
+    let object_rva = handle.raw.object_name_rva().copied().unwrap_or(0);
+    u64::from(lacks_text(type_rva as u64, as_text(&handle.type_name)))
+        + u64::from(lacks_text(object_rva as u64, as_text(&handle.object_name)))
+}
+
+// Tells whether no text is where an RVA names one.
+fn lacks_text(rva: u64, text: Option<&str>) -> bool
+    ensures { result ≡ lacks_text rva (option_copied text.entry) }
+{
+    text.is_none() && rva != 0
 }

@@ -6,9 +6,9 @@ ghost use Rattle.minidump.specs.Promise.{exception_stream};
 ghost use Rattle.crash.specs.Contents.{contents_of};
 ghost use Rattle.crash.specs.Directory.{all_entries, directory_in, directory_of, error_of_number};
 ghost use Rattle.crash.specs.Directory.{is_lost, last_error, outside_in, raw_error};
+ghost use Rattle.crash.specs.Missing.{is_missing};
 
-use crate::contents::Contents;
-use crate::space::error_of;
+use crate::contents::{Contents, error_of};
 use minidump::format::{MINIDUMP_DIRECTORY, MINIDUMP_STREAM_TYPE};
 use minidump::own_streams::Entries;
 use minidump::{Error, Minidump, MinidumpException, MinidumpStream, Source, Steps};
@@ -39,6 +39,13 @@ pub struct StreamEntry {
     /// The error if the stream can't be read; for a type that is never read, the error if its bytes
     /// can't be.
     pub error: Option<Error>,
+}
+
+/// Tells whether an error is that of a stream that is missing, and not of one that can't be read.
+pub fn is_missing(error: Error) -> bool
+    ensures { result ≡ is_missing error }
+{
+    error == Error::StreamNotFound
 }
 
 // Returns what the header and the directory of a dump say.

@@ -1,19 +1,16 @@
 ghost use Rattle.std.specs.Prelude.{◌≡◌, IfOk, IsOkUnless, map};
 ghost use Rattle.std.specs.Option.{option_copied, option_map};
-ghost use Rattle.minidump.specs.Below.MemoryLists.Unified.{unified_list, unified_region};
 ghost use Rattle.minidump.specs.Promise.{exception_stream};
 ghost use Rattle.minidump.specs.Thread.{thread_of};
 ghost use Rattle.stack_walk.specs.Frames.{stack_of};
 ghost use Rattle.stack_walk.specs.Threads.{process_of};
 ghost use Rattle.crash.specs.Contents.{contents_of};
-ghost use Rattle.crash.specs.Frames.{context_of, crash_walk_of, exception_walked, frame_in, memory_at};
+ghost use Rattle.crash.specs.Frames.{context_of, crash_walk_of, exception_walked, frame_in};
 ghost use Rattle.crash.specs.Frames.{process_in, thread_walked, walk_from, walked_of};
 
 use crate::contents::Contents;
 use crate::contexts::{FoundContext, context_at, found_context};
-use minidump::{
-    Error, MinidumpContext, MinidumpException, MinidumpThread, UnifiedMemory, UnifiedMemoryList,
-};
+use minidump::{Error, MinidumpContext, MinidumpException, MinidumpThread};
 use stack_walk::{FrameTrust, Process, Stack, StackFrame, WalkEnd, module_place, walk_stack};
 use std::alloc::{AllocError, Global};
 
@@ -77,7 +74,9 @@ pub(crate) fn walked_exception<'l, 'a>(
     let process = process_of(contents, Some(exception))?;
     let found = context_at(contents, exception)?;
     let context = context_of(&found);
-    let memory = memory_at(process.memory, context.get_stack_pointer());
+    let memory = process
+        .memory
+        .memory_at_address(context.get_stack_pointer());
     Some((process.stack_on(memory), context))
 }
 
@@ -122,16 +121,6 @@ fn walk_from(
         candidates: frames_in(alloc, stack, walk.candidates.as_slice())?,
         end: walk.end,
     })
-}
-
-// Returns the kept region of the memory that contains an address.
-pub(crate) fn memory_at<'l, 'a>(
-    memory: &'l UnifiedMemoryList<'a>,
-    address: u64,
-) -> Option<UnifiedMemory<'l, 'a>>
-    ensures { option_map unified_region result ≡ memory_at (unified_list memory.now) address }
-{
-    memory.memory_at_address(address)
 }
 
 // Returns frames, each with its module.

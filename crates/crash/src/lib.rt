@@ -49,56 +49,46 @@
 #![tactic(auto)]
 
 mod addresses;
-mod annotations;
 mod cause;
 mod contents;
 mod contexts;
-mod counting;
 mod crash;
 mod damage;
 mod directory;
-mod each;
-mod file_names;
 mod frames;
 mod handle_kinds;
 mod last;
 pub mod laws;
 mod linux;
-mod missing;
 mod modules;
 mod point;
 mod process;
 mod process_texts;
 mod records;
 mod release;
-mod set_flags;
-mod space;
 mod stacks;
-mod texts;
-mod thread_facts;
 mod threads;
 mod unreadable_modules;
 
 pub use addresses::{AddressFacts, AddressMemory, RegionState};
-pub use annotations::annotation_text;
 pub use cause::{CrashCause, CrashException};
-pub use contents::{Contents, MessageStreams, ProcessStreams, SystemStreams, ThreadStreams};
+pub use contents::{
+    Contents, MessageStreams, ProcessStreams, SpaceStreams, SystemStreams, ThreadStreams,
+    annotation_text, regions_of,
+};
 pub use contexts::{ContextOrigin, ContextProblem, CrashContext, ShortContext};
 pub use crash::{Crash, status_of};
 pub use damage::Damage;
-pub use directory::{CrashDirectory, StreamEntry};
-pub use file_names::file_name;
+pub use directory::{CrashDirectory, StreamEntry, is_missing};
 pub use frames::{CrashFrame, CrashWalk, frame_in};
 pub use handle_kinds::HandleKind;
 pub use linux::{ProcessLimit, limits_of, variables_of};
-pub use missing::is_missing;
-pub use modules::{CrashModule, CrashModules, UnloadedModule};
+pub use modules::{CrashModule, CrashModules, UnloadedModule, file_name};
 pub use point::{CrashPoint, StackWord};
 pub use process::{CrashProcess, CrashSystem};
 pub use process_texts::Comments;
 pub use records::{Access, Sender, SignalCode};
 pub use release::LsbRelease;
-pub use space::{SpaceStreams, regions_of};
 pub use stacks::StackRange;
 pub use threads::{CrashThread, CrashThreads};
 pub use unreadable_modules::{ModulePart, UnreadableModule};

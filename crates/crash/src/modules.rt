@@ -1,17 +1,19 @@
-ghost use Rattle.std.specs.Prelude.{◌≡◌, IfOk, IsOkUnless, Ok, map, string_bytes};
+ghost use Rattle.std.specs.Prelude.{◌≡◌, [], IfOk, IsOkUnless, Ok, map, string_bytes, unwrap_or};
 ghost use Rattle.std.specs.Option.{option_map};
+ghost use Rattle.std.specs.Result.{result_ok};
 ghost use Rattle.minidump.specs.Below.Contexts.Context.{map_ok};
 ghost use Rattle.minidump.specs.Below.Modules.DebugId.{breakpad_text};
+ghost use Rattle.minidump.specs.Below.Modules.Module.{module_of};
+ghost use Rattle.minidump.specs.Below.Modules.UnloadedModule.{unloaded_of};
 ghost use Rattle.minidump.specs.Dump.{dump_in};
 ghost use Rattle.minidump.specs.DumpValue.{dump_of};
 ghost use Rattle.minidump.specs.Promise.{unloaded_module_list_stream};
 ghost use Rattle.crash.specs.Contents.{contents_of};
-ghost use Rattle.crash.specs.Modules.{by_address, loaded_in, loaded_of, modules_in, modules_of};
-ghost use Rattle.crash.specs.Modules.{unloaded_in, unloaded_module_of};
+ghost use Rattle.crash.specs.FileName.{file_name};
+ghost use Rattle.crash.specs.Modules.{by_address, loaded_of, module_in, modules_in, modules_of};
+ghost use Rattle.crash.specs.Modules.{unloaded_module_in, unloaded_module_of};
 
 use crate::contents::Contents;
-use crate::each::{MakeItem, make_items};
-use crate::file_names::file_name;
 use crate::process::copy;
 use crate::unreadable_modules::{UnreadableModule, unreadable_of};
 use minidump::{
@@ -85,10 +87,10 @@ pub(crate) fn modules_of(
         ≡ modules_in (dump_of dump.now) (contents_of contents.now)) }
     ensures memory { IsOkUnless result Error.OutOfMemory }
 {
-    let loaded = loaded_of(alloc, contents)?;
+    let loaded = loaded_of(alloc, contents.space.modules.as_slice())?;
     let by_address = by_address(alloc, loaded.as_slice())?;
     let unreadable = unreadable_of(alloc, file, dump, contents.space.modules_error)?;
-    let unloaded = unloaded_of(alloc, &contents.space.unloaded)?;
+    let unloaded = unloaded_of(alloc, unloaded_entries(&contents.space.unloaded))?;
     Ok(CrashModules {
         loaded,
         by_address,
@@ -97,28 +99,78 @@ pub(crate) fn modules_of(
     })
 }
 
-// Returns the modules that were loaded.
-fn loaded_of(alloc: Global, contents: &Contents<'_>) -> Result<Vec<CrashModule>, Error>
-    ensures modules { IfOk result (λ modules. map loaded_of modules.items
-        ≡ loaded_in (contents_of contents.now)) }
+// Returns the modules of a list.
+fn loaded_of(alloc: Global, list: &[MinidumpModule]) -> Result<Vec<CrashModule>, Error>
+    ensures modules { IfOk result
+        (λ modules. map loaded_of modules.items ≡ map module_in (map module_of list.now)) }
     ensures memory { IsOkUnless result Error.OutOfMemory }
 {
-    make_items(alloc, &EachModule, contents.space.modules.as_slice())
+    let mut modules = Vec::new(alloc);
+    for item in list {
+        modules.push(module_in(alloc, item)?)?;
+    }
+    Ok(modules)
 }
 
-// Returns the modules that were unloaded.
-fn unloaded_of(
-    alloc: Global,
-    list: &Result<MinidumpUnloadedModuleList, Error>,
-) -> Result<Vec<UnloadedModule>, Error>
-    ensures modules { IfOk result (λ modules. map unloaded_module_of modules.items
-        ≡ unloaded_in (map_ok unloaded_module_list_stream.value list.now)) }
+// Returns a module of the list.
+fn module_in(alloc: Global, item: &MinidumpModule) -> Result<CrashModule, Error>
+    ensures made { IfOk result (λ made. loaded_of made ≡ module_in (module_of item.now)) }
     ensures memory { IsOkUnless result Error.OutOfMemory }
 {
+    let code_id = item.code_identifier(alloc)?;
+    let debug_file = item.debug_file(alloc)?;
+    Ok(CrashModule {
+        base: item.base_address(),
+        end: item.base_address().checked_add(item.size()),
+        path: String::from_str(alloc, item.code_file())?,
+        file: String::from_str(alloc, file_name(item.code_file()))?,
+        version: item.version(alloc)?,
+        code_id: copy(alloc, code_id.as_ref().map(|id| id.as_str()))?,
+        debug_file: copy(alloc, as_text(&debug_file).map(|path| file_name(path)))?,
+        debug_id: debug_id_text(alloc, item.debug_identifier())?,
+    })
+}
+
+// Returns the entries of the list of modules that were unloaded: none if it can't be read.
+pub(crate) fn unloaded_entries(
+    list: &Result<MinidumpUnloadedModuleList, Error>,
+) -> &[MinidumpUnloadedModule]
+    ensures { map unloaded_of result.now
+        ≡ unwrap_or (result_ok (map_ok unloaded_module_list_stream.value list.now)) [] }
+{
     match list {
-        Ok(list) => make_items(alloc, &EachUnloadedModule, list.iter().as_slice()),
-        Err(_) => Ok(Vec::new(alloc)),
+        Ok(list) => list.iter().as_slice(),
+        Err(_) => &[],
     }
+}
+
+// Returns the modules of a list that were unloaded.
+fn unloaded_of(alloc: Global, list: &[MinidumpUnloadedModule]) -> Result<Vec<UnloadedModule>, Error>
+    ensures modules { IfOk result (λ modules. map unloaded_module_of modules.items
+        ≡ map unloaded_module_in (map unloaded_of list.now)) }
+    ensures memory { IsOkUnless result Error.OutOfMemory }
+{
+    let mut modules = Vec::new(alloc);
+    for item in list {
+        modules.push(unloaded_module_in(alloc, item)?)?;
+    }
+    Ok(modules)
+}
+
+// Returns a module that was unloaded.
+fn unloaded_module_in(alloc: Global, item: &MinidumpUnloadedModule) -> Result<UnloadedModule, Error>
+    ensures made { IfOk result
+        (λ made. unloaded_module_of made ≡ unloaded_module_in (unloaded_of item.now)) }
+    ensures memory { IsOkUnless result Error.OutOfMemory }
+{
+    let code_id = item.code_identifier(alloc)?;
+    Ok(UnloadedModule {
+        base: item.base_address(),
+        end: item.base_address().checked_add(item.size()),
+        path: String::from_str(alloc, item.code_file())?,
+        file: String::from_str(alloc, file_name(item.code_file()))?,
+        code_id: copy(alloc, code_id.as_ref().map(|id| id.as_str()))?,
+    })
 }
 
 // Returns the indices of modules in the order of their base addresses.
@@ -126,7 +178,7 @@ fn by_address(alloc: Global, modules: &[CrashModule]) -> Result<Vec<usize>, Allo
     ensures { IfOk result (λ indices. indices.items ≡ by_address (map loaded_of modules.now)) }
 {
     let bases = bases_of(alloc, modules)?;
-    indices_of(alloc, &bases)
+    bases.iter().map(|pair| pair.1).collect(alloc)
 }
 
 // Returns the base address of each module with the index of the module, ascending.
@@ -141,85 +193,6 @@ fn bases_of(alloc: Global, modules: &[CrashModule]) -> Result<BTreeSet<(u64, usi
         .collect(alloc)
 }
 
-// Returns the indices of pairs.
-fn indices_of(alloc: Global, bases: &BTreeSet<(u64, usize)>) -> Result<Vec<usize>, AllocError>
-    ensures { IfOk result (λ indices. indices.items ≡ map (λ p. p.1) bases.now.keys) }
-{
-    bases.iter().map(|pair| pair.1).collect(alloc)
-}
-
-// A module of the list.
-#[derive(Clone, Copy)]
-struct EachModule;
-
-impl MakeItem<MinidumpModule> for EachModule {
-    ghost use Rattle.minidump.specs.Below.Modules.Module.{ModuleValue, module_of};
-    ghost use Rattle.crash.specs.Modules.{LoadedValue, module_in};
-
-    type Made = CrashModule;
-
-    ghost Given = { ModuleValue };
-
-    ghost given_of = { module_of };
-
-    ghost Value = { LoadedValue };
-
-    ghost value_of = { loaded_of };
-
-    ghost made_of = { λ _ m. module_in m };
-
-    fn make_item(&self, alloc: Global, item: &MinidumpModule) -> Result<CrashModule, Error> {
-        let code_id = item.code_identifier(alloc)?;
-        let debug_file = item.debug_file(alloc)?;
-        Ok(CrashModule {
-            base: item.base_address(),
-            end: item.base_address().checked_add(item.size()),
-            path: String::from_str(alloc, item.code_file())?,
-            file: String::from_str(alloc, file_name(item.code_file()))?,
-            version: item.version(alloc)?,
-            code_id: copy(alloc, code_id.as_ref().map(|id| id.as_str()))?,
-            debug_file: copy(alloc, as_text(&debug_file).map(|path| file_name(path)))?,
-            debug_id: debug_id_text(alloc, item.debug_identifier())?,
-        })
-    }
-}
-
-// A module of the list of those that were unloaded.
-#[derive(Clone, Copy)]
-struct EachUnloadedModule;
-
-impl MakeItem<MinidumpUnloadedModule> for EachUnloadedModule {
-    ghost use Rattle.minidump.specs.Below.Modules.UnloadedModule.{UnloadedValue, unloaded_of};
-    ghost use Rattle.crash.specs.Modules.{UnloadedModuleValue, unloaded_module_in};
-
-    type Made = UnloadedModule;
-
-    ghost Given = { UnloadedValue };
-
-    ghost given_of = { unloaded_of };
-
-    ghost Value = { UnloadedModuleValue };
-
-    ghost value_of = { unloaded_module_of };
-
-    ghost made_of = { λ _ m. unloaded_module_in m };
-
-    fn make_item(
-        &self,
-        alloc: Global,
-        item: &MinidumpUnloadedModule,
-    ) -> Result<UnloadedModule, Error> {
-        let code_id = item.code_identifier(alloc)?;
-        Ok(UnloadedModule {
-            base: item.base_address(),
-            end: item.base_address().checked_add(item.size()),
-            path: String::from_str(alloc, item.code_file())?,
-            file: String::from_str(alloc, file_name(item.code_file()))?,
-            code_id: copy(alloc, code_id.as_ref().map(|id| id.as_str()))?,
-        })
-    }
-}
-
 // Makes Breakpad's text of an identifier that may be absent.
 fn debug_id_text(alloc: Global, id: Option<DebugId>) -> Result<Option<String>, Error>
     ensures text { IfOk result
@@ -229,5 +202,15 @@ fn debug_id_text(alloc: Global, id: Option<DebugId>) -> Result<Option<String>, E
     match id {
         Some(id) => Ok(Some(format!(in alloc; "{}", id.breakpad())?)),
         None => Ok(None),
+    }
+}
+
+/// Returns what comes after the last separator of a path, of Windows or of Unix.
+pub fn file_name(path: &str) -> &str
+    ensures { result.now ≡ file_name path.now }
+{
+    match path.rsplit_once(['/', '\\']) {
+        Some((_, name)) => name,
+        None => path,
     }
 }

@@ -4,14 +4,13 @@ ghost use Rattle.std.specs.Option.{option_map};
 ghost use Rattle.minidump.specs.Below.MemoryLists.Unified.{unified_list};
 ghost use Rattle.stack_walk.specs.Frames.{instruction_pointer_in, stack_of};
 ghost use Rattle.crash.specs.Contents.{contents_of};
-ghost use Rattle.crash.specs.Point.{code_at, flags_of, point_by, point_in, point_of};
-ghost use Rattle.crash.specs.Point.{register_facts, word_at, words_from};
+ghost use Rattle.crash.specs.Point.{arm64_flags, arm_flags, code_at, flags_of, names_in, point_by};
+ghost use Rattle.crash.specs.Point.{point_in, point_of, register_facts, set_flags, word_at};
+ghost use Rattle.crash.specs.Point.{words_from, x86_flags};
 
 use crate::addresses::{AddressFacts, facts_of};
 use crate::contents::Contents;
 use crate::contexts::register_values;
-use crate::frames::memory_at;
-use crate::set_flags::set_flags_of;
 use crate::threads::walked_at;
 use minidump::{MinidumpContext, MinidumpRawContext, UnifiedMemoryList};
 use stack_walk::{Stack, is_address, module_place};
@@ -111,11 +110,14 @@ fn register_facts(
     ensures { IfOk result (λ registers. map (λ r. (r.0.now, r.1)) registers.items
         ≡ register_facts (contents_of contents.now) context.now.raw) }
 {
-    register_values(alloc, context)?
-        .iter()
-        .filter(|register| register.0 != "eflags")
-        .map(|register| (register.0, facts_of(contents, register.1)))
-        .collect(alloc)
+    let registers = register_values(alloc, context)?;
+    let mut facts = Vec::new(alloc);
+    for register in registers.as_slice() {
+        if register.0 != "eflags" {
+            facts.push((register.0, facts_of(contents, register.1)))?;
+        }
+    }
+    Ok(facts)
 }
 
 // ---- the code
@@ -124,7 +126,7 @@ fn register_facts(
 fn code_at<'a>(memory: &UnifiedMemoryList<'a>, address: u64) -> &'a [u8]
     ensures { result.now ≡ code_at (unified_list memory.now) address }
 {
-    let Some(region) = memory_at(memory, address) else {
+    let Some(region) = memory.memory_at_address(address) else {
         return &[];
     };
     let from = address.saturating_sub(region.base_address()) as usize;
@@ -187,4 +189,77 @@ fn flags_of(alloc: Global, raw: &MinidumpRawContext) -> Result<Vec<(&'static str
         MinidumpRawContext::Arm64(c) => Ok(vec![in alloc; ("cpsr", c.cpsr as u64)]?),
         MinidumpRawContext::OldArm64(c) => Ok(vec![in alloc; ("cpsr", c.cpsr as u64)]?),
     }
+}
+
+// ---- the flags that are set
+
+// A flag: its name and its bit.
+type Flag = (&'static str, u32);
+
+// Returns the names of the flags that are set in a context.
+fn set_flags_of(alloc: Global, raw: &MinidumpRawContext) -> Result<Vec<&'static str>, AllocError>
+    ensures { IfOk result (λ names. map (λ n. n.now) names.items ≡ set_flags raw.now) }
+{
+    match raw {
+        MinidumpRawContext::X86(context) => x86_names(alloc, context.eflags),
+        MinidumpRawContext::Amd64(context) => x86_names(alloc, context.eflags),
+        MinidumpRawContext::Arm(context) => arm_names(alloc, context.cpsr),
+        MinidumpRawContext::Arm64(context) => arm64_names(alloc, context.cpsr),
+        MinidumpRawContext::OldArm64(context) => arm64_names(alloc, context.cpsr),
+    }
+}
+
+// Returns the names of the flags that are set in eflags.
+#[rattlefmt::skip]
+#[tactic(auto, unfolding(crate::specs::Point::x86_flags))]
+fn x86_names(alloc: Global, flags: u32) -> Result<Vec<&'static str>, AllocError>
+    ensures { IfOk result (λ names. map (λ n. n.now) names.items ≡ names_in x86_flags flags) }
+{
+    names_in(alloc, &[
+        ("CF", 0x1), ("PF", 0x4), ("AF", 0x10), ("ZF", 0x40), ("SF", 0x80), ("TF", 0x100),
+        ("IF", 0x200), ("DF", 0x400), ("OF", 0x800), ("NT", 0x4000), ("RF", 0x1_0000),
+        ("VM", 0x2_0000), ("AC", 0x4_0000), ("VIF", 0x8_0000), ("VIP", 0x10_0000), ("ID", 0x20_0000),
+    ], flags)
+}
+
+// Returns the names of the flags that are set in cpsr of ARM.
+#[rattlefmt::skip]
+#[tactic(auto, unfolding(crate::specs::Point::arm_flags))]
+fn arm_names(alloc: Global, flags: u32) -> Result<Vec<&'static str>, AllocError>
+    ensures { IfOk result (λ names. map (λ n. n.now) names.items ≡ names_in arm_flags flags) }
+{
+    names_in(alloc, &[
+        ("N", 0x8000_0000), ("Z", 0x4000_0000), ("C", 0x2000_0000), ("V", 0x1000_0000),
+        ("Q", 0x800_0000), ("J", 0x100_0000), ("SSBS", 0x80_0000), ("PAN", 0x40_0000),
+        ("DIT", 0x20_0000), ("E", 0x200), ("A", 0x100), ("I", 0x80), ("F", 0x40), ("T", 0x20),
+    ], flags)
+}
+
+// Returns the names of the flags that are set in cpsr of ARM64.
+#[rattlefmt::skip]
+#[tactic(auto, unfolding(crate::specs::Point::arm64_flags))]
+fn arm64_names(alloc: Global, flags: u32) -> Result<Vec<&'static str>, AllocError>
+    ensures { IfOk result (λ names. map (λ n. n.now) names.items ≡ names_in arm64_flags flags) }
+{
+    names_in(alloc, &[
+        ("N", 0x8000_0000), ("Z", 0x4000_0000), ("C", 0x2000_0000), ("V", 0x1000_0000),
+        ("TCO", 0x200_0000), ("DIT", 0x100_0000), ("UAO", 0x80_0000), ("PAN", 0x40_0000),
+        ("SS", 0x20_0000), ("IL", 0x10_0000), ("ALLINT", 0x2000), ("SSBS", 0x1000),
+        ("D", 0x200), ("A", 0x100), ("I", 0x80), ("F", 0x40),
+    ], flags)
+}
+
+// Returns the names of the flags of a table that a number has.
+#[tactic(auto, unfolding(crate::specs::Point::names_in))]
+fn names_in(alloc: Global, table: &[Flag], number: u32) -> Result<Vec<&'static str>, AllocError>
+    ensures { IfOk result (λ names. map (λ n. n.now) names.items
+        ≡ names_in (map (λ f. (f.0.now, f.1)) table.now) number) }
+{
+    let mut names = Vec::new(alloc);
+    for flag in table {
+        if number & flag.1 == flag.1 {
+            names.push(flag.0)?;
+        }
+    }
+    Ok(names)
 }

@@ -1,26 +1,29 @@
-ghost use Rattle.std.specs.Prelude.{◌≡◌, IfOk, IsOkUnless, map};
+ghost use Rattle.std.specs.Prelude.{◌≡◌, IfOk, IsOkUnless, map, string_bytes};
 ghost use Rattle.std.specs.Option.{option_copied, option_map};
-ghost use Rattle.minidump.specs.Promise.{exception_stream};
+ghost use Rattle.minidump.specs.Below.Contexts.Context.{map_ok};
+ghost use Rattle.minidump.specs.Promise.{exception_stream, thread_list_stream, thread_names_stream};
 ghost use Rattle.minidump.specs.Thread.{thread_of};
 ghost use Rattle.crash.specs.Contents.{contents_of};
-ghost use Rattle.crash.specs.Threads.{all_threads, crashed_thread, crashing_at, extra_in, extra_walked};
-ghost use Rattle.crash.specs.Threads.{short_context, thread_value, threads_in, threads_of, unlisted};
-ghost use Rattle.crash.specs.Threads.{walked_at};
 ghost use Rattle.crash.specs.Frames.{walked_of};
+ghost use Rattle.crash.specs.Threads.{all_threads, crashed_thread, crashing_at, entries_in, extra_in};
+ghost use Rattle.crash.specs.Threads.{extra_walked, last_error_in, name_in, short_context, thread_in};
+ghost use Rattle.crash.specs.Threads.{thread_value, threads_in, threads_of, unlisted, walked_at};
 
+use crate::cause::counting_exception;
 use crate::contents::Contents;
 use crate::contexts::{
     ContextOrigin, ContextProblem, CrashContext, ShortContext, context_at, found_context,
-    named_bytes, of_origin, problem_in, registers_of,
+    named_bytes, problem_in, registers_of,
 };
-use crate::counting::counting_exception;
-use crate::each::{MakeItem, make_items};
 use crate::frames::{CrashWalk, walk_of, walked_exception, walked_thread};
 use crate::last::last_index;
 use crate::process::copy;
 use crate::stacks::{StackRange, is_outside, named_stack, stack_memory};
-use crate::thread_facts::{entries_of, last_error_of, name_of};
-use minidump::{CodeNames, Error, MinidumpContext, MinidumpException, MinidumpThread};
+use minidump::system_info::Os;
+use minidump::{
+    CodeNames, Error, MinidumpContext, MinidumpException, MinidumpThread, MinidumpThreadList,
+    MinidumpThreadNames,
+};
 use stack_walk::Stack;
 use std::alloc::Global;
 
@@ -98,13 +101,7 @@ pub(crate) fn threads_of(
     ensures memory { IsOkUnless result Error.OutOfMemory }
 {
     let exception = counting_exception(contents);
-    let each = EachThread {
-        contents,
-        names,
-        scan,
-        exception,
-    };
-    let threads = all_threads(alloc, &each)?;
+    let threads = all_threads(alloc, contents, names, scan, exception)?;
     let crashing = crashing_at(threads.as_slice(), exception);
     Ok(CrashThreads { threads, crashing })
 }
@@ -119,18 +116,57 @@ fn crashing_at(threads: &[CrashThread], exception: Option<&MinidumpException<'_>
 }
 
 // Returns the threads of the list, and after them that of the exception if the list lacks it.
-fn all_threads(alloc: Global, each: &EachThread<'_, '_, '_>) -> Result<Vec<CrashThread>, Error>
-    ensures threads { IfOk result (λ ts. map thread_value ts.items
-        ≡ all_threads each.now.names.now each.now.scan (contents_of each.now.contents.now)
-        (option_map exception_stream.value (option_copied each.now.exception))) }
+fn all_threads<'a>(
+    alloc: Global,
+    contents: &Contents<'a>,
+    names: &CodeNames<'_>,
+    scan: usize,
+    exception: Option<&MinidumpException<'a>>,
+) -> Result<Vec<CrashThread>, Error>
+    ensures threads { IfOk result (λ threads. map thread_value threads.items
+        ≡ all_threads names.now scan (contents_of contents.now)
+        (option_map exception_stream.value (option_copied exception.entry))) }
     ensures memory { IsOkUnless result Error.OutOfMemory }
 {
-    let contents = each.contents;
-    let mut threads = make_items(alloc, each, entries_of(&contents.threads.threads))?;
-    if let Some(exception) = unlisted(contents, each.exception) {
-        threads.push(extra(alloc, contents, exception, each.scan)?)?;
+    let entries = entries_of(&contents.threads.threads);
+    let mut threads = Vec::new(alloc);
+    for item in entries {
+        threads.push(thread_in(alloc, contents, names, scan, exception, item)?)?;
+    }
+    if let Some(exception) = unlisted(contents, exception) {
+        threads.push(extra(alloc, contents, exception, scan)?)?;
     }
     Ok(threads)
+}
+
+// Returns a thread of the list.
+fn thread_in<'a>(
+    alloc: Global,
+    contents: &Contents<'a>,
+    names: &CodeNames<'_>,
+    scan: usize,
+    exception: Option<&MinidumpException<'a>>,
+    item: &MinidumpThread<'a>,
+) -> Result<CrashThread, Error>
+    ensures thread { IfOk result (λ thread. thread_value thread
+        ≡ thread_in names.now scan (contents_of contents.now)
+        (option_map exception_stream.value (option_copied exception.entry)) (thread_of item.now)) }
+    ensures memory { IsOkUnless result Error.OutOfMemory }
+{
+    let id = item.raw.thread_id;
+    let bytes = named_bytes(&item.raw.thread_context, item.context_bytes());
+    Ok(CrashThread {
+        id,
+        is_listed: true,
+        name: copy(alloc, name_of(&contents.threads.names, id))?,
+        context: registers_of(alloc, found_context(contents, exception, item))?,
+        context_problem: problem_in(contents, item.endian(), bytes),
+        stack: named_stack(&item.raw.stack),
+        stack_memory: stack_memory(contents, item),
+        is_stack_outside: is_outside(item),
+        walk: walk_of(alloc, walked_thread(contents, exception, item), scan)?,
+        last_error: last_error_of(alloc, contents, names, item)?,
+    })
 }
 
 // Returns an exception if the list lacks its thread.
@@ -161,7 +197,10 @@ fn extra<'l, 'a>(
     ensures memory { IsOkUnless result Error.OutOfMemory }
 {
     let id = exception.thread_id;
-    let found = of_origin(ContextOrigin::OfException, context_at(contents, exception));
+    let found = context_at(contents, exception).map(|context| (
+        ContextOrigin::OfException,
+        context,
+    ));
     Ok(CrashThread {
         id,
         is_listed: false,
@@ -174,52 +213,6 @@ fn extra<'l, 'a>(
         walk: walk_of(alloc, walked_exception(contents, exception), scan)?,
         last_error: None,
     })
-}
-
-// What the threads of the list are made by: the streams, the names of codes, the most candidates of
-// a walk, and the exception that counts.
-#[derive(Clone, Copy)]
-struct EachThread<'l, 'a, 'n> {
-    contents: &'l Contents<'a>,
-    names: &'l CodeNames<'n>,
-    scan: usize,
-    exception: Option<&'l MinidumpException<'a>>,
-}
-
-impl<'a> MakeItem<MinidumpThread<'a>> for EachThread<'_, 'a, '_> {
-    ghost use Rattle.minidump.specs.Thread.{Thread};
-    ghost use Rattle.crash.specs.Threads.{ThreadValue, thread_in};
-
-    type Made = CrashThread;
-
-    ghost Given = { Thread };
-
-    ghost given_of = { thread_of };
-
-    ghost Value = { ThreadValue };
-
-    ghost value_of = { thread_value };
-
-    ghost made_of = { λ e t. thread_in e.names.now e.scan (contents_of e.contents.now)
-        (option_map exception_stream.value (option_copied e.exception)) t };
-
-    fn make_item(&self, alloc: Global, item: &MinidumpThread<'a>) -> Result<CrashThread, Error> {
-        let (contents, exception) = (self.contents, self.exception);
-        let id = item.raw.thread_id;
-        let bytes = named_bytes(&item.raw.thread_context, item.context_bytes());
-        Ok(CrashThread {
-            id,
-            is_listed: true,
-            name: copy(alloc, name_of(&contents.threads.names, id))?,
-            context: registers_of(alloc, found_context(contents, exception, item))?,
-            context_problem: problem_in(contents, item.endian(), bytes),
-            stack: named_stack(&item.raw.stack),
-            stack_memory: stack_memory(contents, item),
-            is_stack_outside: is_outside(item),
-            walk: walk_of(alloc, walked_thread(contents, exception, item), self.scan)?,
-            last_error: last_error_of(alloc, contents, self.names, item)?,
-        })
-    }
 }
 
 // ---- how they are walked
@@ -250,4 +243,50 @@ fn extra_walked<'l, 'a>(
         (option_map exception_stream.value (option_copied exception.entry)) }
 {
     walked_exception(contents, unlisted(contents, exception)?)
+}
+
+// ---- what is known of a thread
+
+// Returns the entries of the list of threads: none if it can't be read.
+pub(crate) fn entries_of<'l, 'a>(
+    threads: &'l Result<MinidumpThreadList<'a>, Error>,
+) -> &'l [MinidumpThread<'a>]
+    ensures { map thread_of result.now ≡ entries_in (map_ok thread_list_stream.value threads.now) }
+{
+    match threads {
+        Ok(list) => list.threads.as_slice(),
+        Err(_) => &[],
+    }
+}
+
+// Returns the name of a thread.
+fn name_of(names: &Result<MinidumpThreadNames, Error>, id: u32) -> Option<&str>
+    ensures { option_copied result ≡ name_in (map_ok thread_names_stream.value names.now) id }
+{
+    match names {
+        Ok(names) => names.get_name(id),
+        Err(_) => None,
+    }
+}
+
+// Makes the words for the last error of a thread, which Windows alone keeps.
+fn last_error_of<'a>(
+    alloc: Global,
+    contents: &Contents<'a>,
+    names: &CodeNames<'_>,
+    thread: &MinidumpThread<'a>,
+) -> Result<Option<String>, Error>
+    ensures error { IfOk result (λ error. option_map string_bytes error
+        ≡ last_error_in names.now (contents_of contents.now) (thread_of thread.now)) }
+    ensures memory { IsOkUnless result Error.OutOfMemory }
+{
+    match &contents.system.system {
+        Ok(system) if matches!(system.os, Os::Windows) => {
+            match thread.last_error(system.cpu, &contents.space.memory, names) {
+                Some(error) => Ok(Some(error.text(alloc, names)?)),
+                None => Ok(None),
+            }
+        }
+        _ => Ok(None),
+    }
 }

@@ -3,8 +3,8 @@ ghost use Rattle.std.specs.Prelude.{◌≡◌, ◌++◌, [], IfOk, IsOkUnless, O
 ghost use Rattle.std.specs.List.{cons_option};
 ghost use Rattle.minidump.specs.Dump.{dump_in};
 ghost use Rattle.minidump.specs.DumpValue.{dump_of};
-ghost use Rattle.crash.specs.UnreadableModules.{entries_in, part_in, unreadable_among};
-ghost use Rattle.crash.specs.UnreadableModules.{unreadable_by, unreadable_in};
+ghost use Rattle.crash.specs.Modules.{entries_in, part_in, unreadable_among};
+ghost use Rattle.crash.specs.Modules.{unreadable_by, unreadable_in};
 
 use minidump::format::MINIDUMP_MODULE;
 use minidump::own_streams::Entries;

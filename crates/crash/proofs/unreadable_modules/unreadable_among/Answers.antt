@@ -1,6 +1,6 @@
 -- One entry more, and the end.
 use Rattle.std.proofs.Common.{arith, refl, sym}
-use Rattle.crash.specs.UnreadableModules.{unreadable_in}
+use Rattle.crash.specs.Modules.{unreadable_in}
 use Rattle.crash.proofs.NumberedFound.{all_numbered, next_numbered}
 use Rattle.crash.proofs.unreadable_modules.unreadable_among.Goals as goal
 

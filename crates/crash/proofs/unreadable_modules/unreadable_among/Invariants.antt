@@ -1,6 +1,6 @@
 -- What was found in the entries so far.
 use Rattle.std.proofs.Common.{◌≡◌, take}
-use Rattle.crash.specs.UnreadableModules.{unreadable_among}
+use Rattle.crash.specs.Modules.{unreadable_among}
 use Rattle.crash.proofs.unreadable_modules.unreadable_among.Given as goal
 
 abbrev pub invariant-loop-index : goal.invariant-loop-index

@@ -4,7 +4,7 @@ use Rattle.minidump.specs.Below.Contexts.Context.{map_ok}
 use Rattle.minidump.specs.Promise.{exception_stream}
 use Rattle.crash.specs.Counting.{has_code, is_read}
 use Rattle.crash.proofs.Lasts.{last_value}
-use Rattle.crash.proofs.counting.counting.Goals as goal
+use Rattle.crash.proofs.cause.counting.Goals as goal
 
 pub returns : goal.returns
 returns c =

@@ -2,8 +2,8 @@
 use Rattle.std.proofs.Common.{◌≡◌, ◌*◌, ◌≤◌, take}
 use Rattle.std.specs.List.{sum_by}
 use Rattle.minidump.specs.Below.Records.Handles.{handle_of}
-use Rattle.crash.specs.Texts.{names_lacking}
-use Rattle.crash.proofs.texts.handles_lacking.Given as goal
+use Rattle.crash.specs.Damage.{names_lacking}
+use Rattle.crash.proofs.damage.handles_lacking.Given as goal
 
 abbrev pub invariant-loop-handle : goal.invariant-loop-handle
 invariant-loop-handle l = record {
