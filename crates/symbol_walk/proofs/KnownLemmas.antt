@@ -1,9 +1,9 @@
 -- Registers whose values are known: one after another, and by a test of what they are.
-use Rattle.std.proofs.Common.{◌≡◌, ◌∙◌, ◌<◌, ◌+◌, ◌++◌, ◌∷◌, [], ℕ, List, Option, Some, None, Bool, ap, get_or, length, map, refl, sym, take}
-use Rattle.std.specs.List.{cons_option, filter_map, find}
+use Rattle.std.proofs.Common.{◌≡◌, ◌∙◌, ◌<◌, ◌+◌, ◌++◌, [], ℕ, List, Option, Some, None, Bool, ap, get_or, length, map, refl, take}
+use Rattle.std.specs.List.{cons_option, find}
 use Rattle.std.specs.Option.{option_and_then, option_map}
 use Rattle.std.specs.Str.{bytes_eq}
-use Rattle.std.proofs.lemmas.List.{map-append, take_more}
+use Rattle.std.proofs.lemmas.List.{map_more}
 use Rattle.std.proofs.lemmas.List.Elements.{filter_map-append}
 use Rattle.breakpad_symbols.proofs.NumberedLemmas.{find-map}
 use Rattle.symbol_walk.specs.declared.registers.KnownRegister.{KnownRegister}
@@ -12,22 +12,13 @@ use Rattle.symbol_walk.specs.Registers.{RegisterRow, is_frame_pointer, is_stack_
 use Rattle.symbol_walk.specs.Registers.{known_value, labelled_value, row_of, value_where}
 
 module _ (value : RegisterRow → Option ℕ) where
-  abbrev one : RegisterRow → Option (List ℕ × ℕ)
-  one r = option_map (λ v. (r.name, v)) (value r)
-
   -- one more
   pub known_next : (rs : List Register) (i : ℕ) (d : Register) (before after : List KnownRegister) (o : Option ℕ) → i < length rs
       → map known_of before ≡ known_by value (map row_of (take i rs)) → o ≡ value (row_of (get_or rs i d))
       → map known_of after ≡ map known_of before ++ cons_option (option_map (λ v. ((get_or rs i d).name.now, v)) o) []
       → map known_of after ≡ known_by value (map row_of (take (i + 1) rs))
   unfolding known_by
-  known_next rs i d before after o within done given step =
-      let rows : map row_of (take (i + 1) rs) ≡ map row_of (take i rs) ++ (row_of (get_or rs i d) ∷ []) =
-      ap (map row_of) (take_more rs i d within) ∙ map-append row_of (take i rs) (get_or rs i d ∷ [])
-      in
-      step ∙ ap (λ l. l ++ cons_option (option_map (λ v. ((get_or rs i d).name.now, v)) o) []) done
-      ∙ ap (λ p. filter_map one (map row_of (take i rs)) ++ cons_option (option_map (λ v. ((get_or rs i d).name.now, v)) p) []) given
-      ∙ sym (filter_map-append one (map row_of (take i rs)) (row_of (get_or rs i d) ∷ [])) ∙ ap (filter_map one) (sym rows)
+  known_next rs i d before after o within done given step = rw (map_more row_of rs i d within, filter_map-append, ← done, ← given) step
 
 -- ---- by a test
 

@@ -1,8 +1,6 @@
 -- The lemmas of this crate.
 pub mod KnownLemmas
-pub mod LookupLemmas
 pub mod ReachLemmas
 pub mod UpLemmas
 pub mod WithoutLemmas
-pub mod FewLemmas
 pub mod RestartLemmas

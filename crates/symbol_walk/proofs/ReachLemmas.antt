@@ -3,9 +3,10 @@ use Rattle.std.proofs.Common.{◌≡◌, ◌∙◌, ◌<◌, ◌≤◌, ◌+◌,
 use Rattle.std.proofs.Common.{arith, ◌⊎◌, inl, inr}
 use Rattle.std.specs.Prelude.{cond, nat_le, nat_lt, is_some, ◌&&◌, if◌then◌else◌}
 use Rattle.std.specs.List.{All, cons_option, filter_map, find, range_with_len}
-use Rattle.std.specs.Option.{option_and_then, option_map, option_map_or, option_or}
+use Rattle.std.specs.Option.{option_and_then, option_map_or, option_or}
 use Rattle.std.proofs.lemmas.Bool.Decides.{nat_tests}
 use Rattle.std.proofs.lemmas.List.Elements.{All-cons, All-contains, All-nil}
+use Rattle.std.proofs.lemmas.Option.{same_Some}
 use Rattle.minidump.specs.Below.MemoryLists.Unified.{UnifiedRegion}
 use Rattle.minidump.specs.Below.System.Cpu.{pointer_bytes}
 use Rattle.stack_walk.specs.declared.frame.FrameTrust.{FrameTrust}
@@ -14,10 +15,9 @@ use Rattle.stack_walk.specs.declared.frame.StackFrame.{StackFrame}
 use Rattle.stack_walk.specs.Addresses.{address_after}
 use Rattle.stack_walk.specs.Frames.{StackValue, candidate_at, candidate_by, return_at, word_candidate, word_candidates}
 use Rattle.stack_walk.specs.Frames.{caller_of as pointer_caller}
-use Rattle.stack_walk.proofs.CallerLemmas.{base_of, climbs, end_of, failed, has_record, mapped, passed, step}
+use Rattle.stack_walk.proofs.CallerLemmas.{base_of, climbs, failed, has_record, mapped, passed, step}
 use Rattle.stack_walk.proofs.EvidenceLemmas.{by_return}
 use Rattle.breakpad_symbols.proofs.MemberLemmas.{both, found_passes}
-use Rattle.symbol_walk.specs.declared.rules.Return.{Return}
 use Rattle.symbol_walk.specs.Frames.{IsByRules}
 use Rattle.symbol_walk.specs.Registers.{known_by, known_frame_pointer, known_stack_pointer}
 use Rattle.symbol_walk.specs.Rules.{caller_by, caller_value, caller_with, goes_on, is_above, is_of_context, is_on_stack, returns, rules_at}
@@ -27,119 +27,67 @@ use Rattle.symbol_walk.specs.Walk.{caller_by_rules, caller_of, caller_without, e
 
 -- ---- on the stack
 
-abbrev on_region : Option UnifiedRegion → ℕ → Bool
-on_region region address =
-    option_map_or (λ r. nat_le r.base_address address && nat_le address (r.base_address + length r.bytes)) region false
+-- how many addresses the stack pointer of a caller may be: those of the stack, and the one after it
+abbrev pub count_of : Option UnifiedRegion → ℕ
+count_of region = option_map_or (λ r. length r.bytes + 1) region 0
 
-within_region : (region : Option UnifiedRegion) (a : ℕ) → on_region region a ≡ true
-    → (option_map_or (λ r. r.base_address) region 0 ≤ a)
-    × (a ≤ option_map_or (λ r. r.base_address) region 0 + length (option_map_or (λ r. r.bytes) region []))
-within_region None a e = cc
-within_region (Some r) a e =
-    let tests = both (nat_le r.base_address a) (nat_le a (r.base_address + length r.bytes)) e in
-    let low : r.base_address ≤ a = grind (arith, nat_tests, tests.0) in
-    let high : a ≤ r.base_address + length r.bytes = grind (arith, nat_tests, tests.1) in
-    (low, high)
+-- the end of these addresses
+abbrev pub top_of : StackValue → ℕ
+top_of s = base_of s + count_of s.region
 
--- an address of the stack, or the one after it
-pub within_stack : (s : StackValue) (a : ℕ) → is_on_stack s a ≡ true → (base_of s ≤ a) × (a ≤ end_of s)
-within_stack s a e = within_region s.region a e
-
-region_has : (region : Option UnifiedRegion) (a : ℕ) → option_map_or (λ r. r.base_address) region 0 + 8 ≤ a
-    → a ≤ option_map_or (λ r. r.base_address) region 0 + length (option_map_or (λ r. r.bytes) region []) → on_region region a ≡ true
-region_has None a low high = absurd (omega (arith, low, high))
-region_has (Some r) a low high =
-    let first : nat_le r.base_address a ≡ true = grind (arith, nat_tests, low) in
-    let last : nat_le a (r.base_address + length r.bytes) ≡ true = grind (arith, nat_tests, high) in
-    rw (first, last) refl
-
--- ---- above the frame
-
--- where the caller of a frame stands
+-- where the caller of a frame stands: on the stack, above the frame, or for a context's frame at it
 pub record Reached (u : UnwinderValue) (f g : StackFrame) : Type 0 where
-  pub on : is_on_stack u.stack g.stack_pointer ≡ true
-  pub above : is_above f g.stack_pointer ≡ true
+  pub low : base_of u.stack ≤ g.stack_pointer
+  pub high : g.stack_pointer < top_of u.stack
+  pub above : f.stack_pointer ≤ g.stack_pointer
+  pub more : is_of_context f.trust ≡ false → f.stack_pointer < g.stack_pointer
   pub found : is_of_context g.trust ≡ false
 
-at_least : (first : Bool) (a b : ℕ) → (if first then nat_le a b else nat_lt a b) ≡ true → a ≤ b
-at_least true a b e = grind (arith, nat_tests, e)
-at_least false a b e = grind (arith, nat_tests, e)
+on_stack : (region : Option UnifiedRegion) (a : ℕ)
+    → option_map_or (λ r. nat_le r.base_address a && nat_le a (r.base_address + length r.bytes)) region false ≡ true
+    → (option_map_or (λ r. r.base_address) region 0 ≤ a) × (a < option_map_or (λ r. r.base_address) region 0 + count_of region)
+on_stack None a e = cc
+on_stack (Some r) a e =
+    let tests = both (nat_le r.base_address a) (nat_le a (r.base_address + length r.bytes)) e in
+    (grind (arith, nat_tests, tests.0), grind (arith, nat_tests, tests.1))
 
-more_than : (first : Bool) (a b : ℕ) → first ≡ false → (if first then nat_le a b else nat_lt a b) ≡ true → a < b
-more_than true a b other e = cc
-more_than false a b other e = grind (arith, nat_tests, e)
-
-higher : (first : Bool) (a b : ℕ) → a < b → (if first then nat_le a b else nat_lt a b) ≡ true
-higher true a b lt = grind (arith, nat_tests, lt)
-higher false a b lt = grind (arith, nat_tests, lt)
-
--- the caller of a caller stands above that
-pub strictly : (u : UnwinderValue) (f g : StackFrame) → is_of_context f.trust ≡ false → Reached u f g → f.stack_pointer < g.stack_pointer
-strictly u f g other r = more_than (is_of_context f.trust) f.stack_pointer g.stack_pointer other r.above
+is_higher : (first : Bool) (a b : ℕ) → (if first then nat_le a b else nat_lt a b) ≡ true → (a ≤ b) × (first ≡ false → a < b)
+is_higher true a b e = (grind (arith, nat_tests, e), λ other. cc)
+is_higher false a b e = (grind (arith, nat_tests, e), λ other. grind (arith, nat_tests, e))
 
 -- where the stack of a frame goes on
-goes : (s : StackValue) (f : StackFrame) (a : ℕ) → goes_on s f a ≡ true → (is_on_stack s a ≡ true) × (is_above f a ≡ true)
+goes : (u : UnwinderValue) (f g : StackFrame) → goes_on u.stack f g.stack_pointer ≡ true → is_of_context g.trust ≡ false → Reached u f g
 unfolding goes_on
-goes s f a e = both (is_on_stack s a) (is_above f a) e
+goes u f g e found =
+    let tests = both (is_on_stack u.stack g.stack_pointer) (is_above f g.stack_pointer) e in
+    let on = on_stack u.stack.region g.stack_pointer tests.0 in
+    let above = is_higher (is_of_context f.trust) f.stack_pointer g.stack_pointer tests.1 in
+    record { low = on.0; high = on.1; above = above.0; more = above.1; found = found }
 
 -- ---- by rules
-
-some_is : {A : Type 0} (x y : A) → Some x ≡ Some y → x ≡ y
-some_is x y e = cc
-
--- the caller with a stack pointer and some registers
-abbrev framed : UnwinderValue → Return → List (List ℕ × ℕ) → ℕ → FrameValue
-framed u back registers stack_pointer = record {
-  frame = record {
-    instruction = back.return_address;
-    stack_pointer = stack_pointer;
-    frame_pointer = known_frame_pointer u.registers registers;
-    trust = Cfi;
-  };
-  registers = registers;
-}
-
--- what the caller with some registers is
-record WithRegisters (u : UnwinderValue) (f : StackFrame) (back : Return) (registers : List (List ℕ × ℕ)) (g : FrameValue) : Type 0 where
-  reach : Reached u f g.frame
-  instruction : g.frame.instruction ≡ back.return_address
-  has : g.registers ≡ registers
-
-with_registers : (u : UnwinderValue) (f : StackFrame) (back : Return) (registers : List (List ℕ × ℕ)) (g : FrameValue)
-    → caller_with u f back registers ≡ Some g → WithRegisters u f back registers g
-with_registers u f back registers g e =
-    let made = λ (stack_pointer : ℕ). framed u back registers stack_pointer in
-    let pointer =
-    step (λ stack_pointer. if goes_on u.stack f stack_pointer then Some (made stack_pointer) else None) (known_stack_pointer u.registers registers) g e
-    in
-    let test = passed (goes_on u.stack f pointer.0) (Some (made pointer.0)) g pointer.2 in
-    let there = goes u.stack f pointer.0 test.0 in
-    let is : made pointer.0 ≡ g = some_is (made pointer.0) g test.1 in
-    let at : pointer.0 ≡ g.frame.stack_pointer = ap (λ (x : FrameValue). x.frame.stack_pointer) is in
-    let by : Cfi ≡ g.frame.trust = ap (λ (x : FrameValue). x.frame.trust) is in
-    record {
-      reach = record { on = rw (← at) there.0; above = rw (← at) there.1; found = rw (← by) refl };
-      instruction = sym (ap (λ (x : FrameValue). x.frame.instruction) is);
-      has = sym (ap (λ (x : FrameValue). x.registers) is);
-    }
 
 by_rules : (u : UnwinderValue) (f g : FrameValue) → caller_by_rules u f ≡ Some g → Reached u f.frame g.frame × IsByRules u f g
 unfolding caller_by_rules
 by_rules u f g e =
     let rules = step (caller_by u f.frame) (rules_at u f) g e in
-    let back =
-    step (λ back. caller_with u f.frame back (known_by (caller_value rules.0 back) u.registers)) (returns rules.0) g rules.2
+    let back = step (λ back. caller_with u f.frame back (known_by (caller_value rules.0 back) u.registers)) (returns rules.0) g rules.2 in
+    let registers = known_by (caller_value rules.0 back.0) u.registers in
+    let made : ℕ → FrameValue = λ stack_pointer. record {
+      frame = record {
+        instruction = back.0.return_address;
+        stack_pointer = stack_pointer;
+        frame_pointer = known_frame_pointer u.registers registers;
+        trust = Cfi;
+      };
+      registers = registers;
+    } in
+    let pointer =
+    step (λ stack_pointer. if goes_on u.stack f.frame stack_pointer then Some (made stack_pointer) else None) (known_stack_pointer u.registers registers) g back.2
     in
-    let is = with_registers u f.frame back.0 (known_by (caller_value rules.0 back.0) u.registers) g back.2 in (
-      is.reach,
-      record {
-        rules = rules.0;
-        back = back.0;
-        has_rules = rules.1;
-        has_return = back.1;
-        instruction = is.instruction;
-        registers = is.has;
-      },
+    let test = passed (goes_on u.stack f.frame pointer.0) (Some (made pointer.0)) g pointer.2 in
+    subst (λ (h : FrameValue). Reached u f.frame h.frame × IsByRules u f h) (same_Some (made pointer.0) g test.1) (
+      goes u f.frame (made pointer.0).frame test.0 (refl {a = false}),
+      record { rules = rules.0; back = back.0; has_rules = rules.1; has_return = back.1; instruction = refl {a = back.0.return_address}; registers = refl {a = registers} },
     )
 
 -- ---- by the frame pointer
@@ -149,12 +97,23 @@ abbrev is_cfi : FrameTrust → Bool
 is_cfi Cfi = true
 is_cfi _ = false
 
+below : (region : Option UnifiedRegion) (a : ℕ) → option_map_or (λ r. r.base_address) region 0 + 8 ≤ a
+    → a ≤ option_map_or (λ r. r.base_address) region 0 + length (option_map_or (λ r. r.bytes) region [])
+    → a < option_map_or (λ r. r.base_address) region 0 + count_of region
+below None a low high = absurd (omega (arith, low, high))
+below (Some r) a low high = omega (arith, high)
+
 by_pointer : (u : UnwinderValue) (f g : StackFrame) → pointer_caller u.stack f ≡ Some g → Reached u f g × (is_cfi g.trust ≡ false)
 by_pointer u f g e =
     let up = climbs u.stack f g e in
-    let by = (has_record u.stack f g e).trust in
-    let lt : f.stack_pointer < g.stack_pointer = omega (arith, up.0) in (
-      record { on = region_has u.stack.region g.stack_pointer up.1 up.2; above = higher (is_of_context f.trust) f.stack_pointer g.stack_pointer lt; found = rw by refl },
+    let by = (has_record u.stack f g e).trust in (
+      record {
+        low = omega (arith, up.1);
+        high = below u.stack.region g.stack_pointer up.1 up.2;
+        above = omega (arith, up.0);
+        more = λ other. omega (arith, up.0);
+        found = rw by refl;
+      },
       rw by refl,
     )
 
@@ -193,9 +152,8 @@ by_scan u f g e =
     let size = step (λ size. find (restarts u f) (word_candidates u.stack (next_words f size))) (pointer_bytes u.stack.width) g e in
     let words = next_words f size.0 in
     let is = found_passes (restarts u f) (word_candidates u.stack words) g size.2 in
-    let there = goes u.stack f g.stack_pointer (restarts_there u f g is.1) in
     let by = All-contains IsScanned (word_candidates u.stack words) g (each_scanned u.stack words) is.0 in
-    (record { on = there.0; above = there.1; found = rw by refl }, rw by refl)
+    (goes u f g (restarts_there u f g is.1) (rw by refl), rw by refl)
 
 -- ---- any of these
 
@@ -208,11 +166,11 @@ without_rules : (u : UnwinderValue) (f g : FrameValue) → caller_without u f �
 without_rules u f g e =
     let found = mapped (pointer_frame u) (option_or (pointer_caller u.stack f.frame) (restart_of u f.frame)) g e in
     let is : found.0 ≡ g.frame = sym (ap (λ (x : FrameValue). x.frame) found.2) in
-    subst (λ (h : StackFrame). Reached u f.frame h × (is_cfi h.trust ≡ false)) is (by found.0 (either (pointer_caller u.stack f.frame) (restart_of u f.frame) found.0 found.1))
-  where
-    by : (h : StackFrame) → (pointer_caller u.stack f.frame ≡ Some h) ⊎ (restart_of u f.frame ≡ Some h) → Reached u f.frame h × (is_cfi h.trust ≡ false)
-    by h (inl e) = by_pointer u f.frame h e
-    by h (inr e) = by_scan u f.frame h e
+    subst (λ (h : StackFrame). Reached u f.frame h × (is_cfi h.trust ≡ false)) is
+    (elim (either (pointer_caller u.stack f.frame) (restart_of u f.frame) found.0 found.1) [
+      | inl e ↦ by_pointer u f.frame found.0 e
+      | inr e ↦ by_scan u f.frame found.0 e
+    ])
 
 -- the caller of a frame, by its rules or without them
 caller_by_any : (u : UnwinderValue) (f g : FrameValue) → caller_of u f ≡ Some g → (caller_by_rules u f ≡ Some g) ⊎ (caller_without u f ≡ Some g)
@@ -223,36 +181,31 @@ caller_by_any u f g e =
 
 -- it stands on the stack
 pub reached : (u : UnwinderValue) (f g : FrameValue) → caller_of u f ≡ Some g → Reached u f.frame g.frame
-reached u f g e = by (caller_by_any u f g e)
-  where
-    by : (caller_by_rules u f ≡ Some g) ⊎ (caller_without u f ≡ Some g) → Reached u f.frame g.frame
-    by (inl e) = (by_rules u f g e).0
-    by (inr e) = (without_rules u f g e).0
+reached u f g e = elim (caller_by_any u f g e) [
+  | inl e ↦ (by_rules u f g e).0
+  | inr e ↦ (without_rules u f g e).0
+]
 
 -- and if it is by rules it has their values
 pub is_by_rules : (u : UnwinderValue) (f g : FrameValue) → caller_of u f ≡ Some g → g.frame.trust ≡ Cfi → IsByRules u f g
-is_by_rules u f g e by_cfi = by (caller_by_any u f g e)
-  where
-    by : (caller_by_rules u f ≡ Some g) ⊎ (caller_without u f ≡ Some g) → IsByRules u f g
-    by (inl e) = (by_rules u f g e).1
-    by (inr e) = absurd (let k : true ≡ false = sym (ap is_cfi by_cfi) ∙ (without_rules u f g e).1 in cc)
+is_by_rules u f g e by_cfi = elim (caller_by_any u f g e) [
+  | inl e ↦ (by_rules u f g e).1
+  | inr e ↦ absurd (let k : true ≡ false = sym (ap is_cfi by_cfi) ∙ (without_rules u f g e).1 in cc)
+]
 
 -- ---- what is left of the stack
 
 -- how far the stack goes on after a frame, and one more for that of a context
 abbrev pub left : UnwinderValue → FrameValue → ℕ
-left u f = (end_of u.stack + 1 - f.frame.stack_pointer) + cond (is_of_context f.frame.trust) 1 0
+left u f = (top_of u.stack - f.frame.stack_pointer) + cond (is_of_context f.frame.trust) 1 0
 
-shorter : (first : Bool) (a b end : ℕ) → a ≤ b → b ≤ end → (first ≡ false → a < b) → end + 1 - b < (end + 1 - a) + cond first 1 0
-shorter true a b end low high more = omega (arith, low, high)
-shorter false a b end low high more = omega (arith, more refl, high)
+shorter : (first : Bool) (a b top : ℕ) → a ≤ b → b < top → (first ≡ false → a < b) → top - b < (top - a) + cond first 1 0
+shorter true a b top low high more = omega (arith, low, high)
+shorter false a b top low high more = omega (arith, more refl, high)
 
 -- it is less after the caller
 pub falls : (u : UnwinderValue) (f g : FrameValue) → caller_of u f ≡ Some g → left u g < left u f
 falls u f g e =
     let r = reached u f g e in
-    let high = (within_stack u.stack g.frame.stack_pointer r.on).1 in
-    rw r.found
-    (let low = at_least (is_of_context f.frame.trust) f.frame.stack_pointer g.frame.stack_pointer r.above in
-    let less = shorter (is_of_context f.frame.trust) f.frame.stack_pointer g.frame.stack_pointer (end_of u.stack) low high
-    (λ other. strictly u f.frame g.frame other r) in omega (arith, less))
+    let less = shorter (is_of_context f.frame.trust) f.frame.stack_pointer g.frame.stack_pointer (top_of u.stack) r.above r.high r.more in
+    rw r.found (omega (arith, less))

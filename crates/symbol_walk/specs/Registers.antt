@@ -1,7 +1,7 @@
 -- The registers of a processor: how rules call each, how a context calls it, and what the calling
 -- convention makes of it.
-use Rattle.std.specs.Prelude.{ℕ, Bool, true, false, List, [], ◌∷◌, ◌++◌, codes, Option}
-use Rattle.std.specs.List.{filter_map, find}
+use Rattle.std.specs.Prelude.{ℕ, ◌==◌, Bool, true, false, List, [], ◌∷◌, ◌++◌, codes, map, Option}
+use Rattle.std.specs.List.{filter_map, find, flat_map, slice_split}
 use Rattle.std.specs.Option.{option_and_then, option_map}
 use Rattle.std.specs.Str.{bytes_eq}
 use Rattle.minidump.specs.declared.MinidumpRawContext.{MinidumpRawContext}
@@ -24,111 +24,67 @@ pub record RegisterRow : Type 0 where
 abbrev pub row_of : Register → RegisterRow
 row_of r = record { label = r.label.now; name = r.name.now; role = r.role }
 
--- a register whose label is its name after a dollar sign
-abbrev marked : List ℕ → RegisterRole → RegisterRow
-marked name role = record { label = codes "$" ++ name; name = name; role = role }
+-- the words of a text, with a space between two
+abbrev words : List ℕ → List (List ℕ)
+words text = slice_split (λ c. c == 0x20) text
 
--- a register whose label is its name
-abbrev plain : List ℕ → RegisterRole → RegisterRow
-plain name role = record { label = name; name = name; role = role }
+-- registers of one role whose labels are their names
+abbrev plain : RegisterRole → List ℕ → List RegisterRow
+plain role names = map (λ name. record { label = name; name = name; role = role }) (words names)
+
+-- registers of one role whose labels are their names after a dollar sign
+abbrev marked : RegisterRole → List ℕ → List RegisterRow
+marked role names =
+    map (λ name. record { label = codes "$" ++ name; name = name; role = role }) (words names)
 
 -- a register with a label of its own
-abbrev labelled : List ℕ → List ℕ → RegisterRole → RegisterRow
-labelled label name role = record { label = label; name = name; role = role }
+abbrev labelled : RegisterRole → List ℕ → List ℕ → List RegisterRow
+labelled role label name = record { label = label; name = name; role = role } ∷ []
 
 -- ---- the registers of each processor; a function keeps the saved ones, and the frame pointer, for
 -- its caller
 
 unfoldable pub x86_table : List RegisterRow
-x86_table =
-    marked (codes "eip") InstructionPointer ∷
-    marked (codes "esp") StackPointer ∷
-    marked (codes "ebp") FramePointer ∷
-    marked (codes "ebx") Saved ∷
-    marked (codes "esi") Saved ∷
-    marked (codes "edi") Saved ∷
-    marked (codes "eax") Scratch ∷
-    marked (codes "ecx") Scratch ∷
-    marked (codes "edx") Scratch ∷
-    []
+x86_table = flat_map (λ rows. rows) (
+    marked InstructionPointer (codes "eip") ∷
+    marked StackPointer (codes "esp") ∷
+    marked FramePointer (codes "ebp") ∷
+    marked Saved (codes "ebx esi edi") ∷
+    marked Scratch (codes "eax ecx edx") ∷
+    [])
 
 unfoldable pub amd64_table : List RegisterRow
-amd64_table =
-    marked (codes "rax") Scratch ∷
-    marked (codes "rdx") Scratch ∷
-    marked (codes "rcx") Scratch ∷
-    marked (codes "rbx") Saved ∷
-    marked (codes "rsi") Scratch ∷
-    marked (codes "rdi") Scratch ∷
-    marked (codes "rbp") FramePointer ∷
-    marked (codes "rsp") StackPointer ∷
-    marked (codes "r8") Scratch ∷
-    marked (codes "r9") Scratch ∷
-    marked (codes "r10") Scratch ∷
-    marked (codes "r11") Scratch ∷
-    marked (codes "r12") Saved ∷
-    marked (codes "r13") Saved ∷
-    marked (codes "r14") Saved ∷
-    marked (codes "r15") Saved ∷
-    marked (codes "rip") InstructionPointer ∷
-    []
+amd64_table = flat_map (λ rows. rows) (
+    marked Scratch (codes "rax rdx rcx") ∷
+    marked Saved (codes "rbx") ∷
+    marked Scratch (codes "rsi rdi") ∷
+    marked FramePointer (codes "rbp") ∷
+    marked StackPointer (codes "rsp") ∷
+    marked Scratch (codes "r8 r9 r10 r11") ∷
+    marked Saved (codes "r12 r13 r14 r15") ∷
+    marked InstructionPointer (codes "rip") ∷
+    [])
 
 unfoldable pub arm_table : List RegisterRow
-arm_table =
-    plain (codes "r0") Scratch ∷
-    plain (codes "r1") Scratch ∷
-    plain (codes "r2") Scratch ∷
-    plain (codes "r3") Scratch ∷
-    plain (codes "r4") Saved ∷
-    plain (codes "r5") Saved ∷
-    plain (codes "r6") Saved ∷
-    plain (codes "r7") Saved ∷
-    plain (codes "r8") Saved ∷
-    plain (codes "r9") Saved ∷
-    plain (codes "r10") Saved ∷
-    labelled (codes "r11") (codes "fp") FramePointer ∷
-    plain (codes "r12") Scratch ∷
-    plain (codes "sp") StackPointer ∷
-    plain (codes "lr") Scratch ∷
-    plain (codes "pc") InstructionPointer ∷
-    []
+arm_table = flat_map (λ rows. rows) (
+    plain Scratch (codes "r0 r1 r2 r3") ∷
+    plain Saved (codes "r4 r5 r6 r7 r8 r9 r10") ∷
+    labelled FramePointer (codes "r11") (codes "fp") ∷
+    plain Scratch (codes "r12") ∷
+    plain StackPointer (codes "sp") ∷
+    plain Scratch (codes "lr") ∷
+    plain InstructionPointer (codes "pc") ∷
+    [])
 
 unfoldable pub arm64_table : List RegisterRow
-arm64_table =
-    plain (codes "x0") Scratch ∷
-    plain (codes "x1") Scratch ∷
-    plain (codes "x2") Scratch ∷
-    plain (codes "x3") Scratch ∷
-    plain (codes "x4") Scratch ∷
-    plain (codes "x5") Scratch ∷
-    plain (codes "x6") Scratch ∷
-    plain (codes "x7") Scratch ∷
-    plain (codes "x8") Scratch ∷
-    plain (codes "x9") Scratch ∷
-    plain (codes "x10") Scratch ∷
-    plain (codes "x11") Scratch ∷
-    plain (codes "x12") Scratch ∷
-    plain (codes "x13") Scratch ∷
-    plain (codes "x14") Scratch ∷
-    plain (codes "x15") Scratch ∷
-    plain (codes "x16") Scratch ∷
-    plain (codes "x17") Scratch ∷
-    plain (codes "x18") Scratch ∷
-    plain (codes "x19") Saved ∷
-    plain (codes "x20") Saved ∷
-    plain (codes "x21") Saved ∷
-    plain (codes "x22") Saved ∷
-    plain (codes "x23") Saved ∷
-    plain (codes "x24") Saved ∷
-    plain (codes "x25") Saved ∷
-    plain (codes "x26") Saved ∷
-    plain (codes "x27") Saved ∷
-    plain (codes "x28") Saved ∷
-    labelled (codes "x29") (codes "fp") FramePointer ∷
-    labelled (codes "x30") (codes "lr") Scratch ∷
-    plain (codes "sp") StackPointer ∷
-    plain (codes "pc") InstructionPointer ∷
-    []
+arm64_table = flat_map (λ rows. rows) (
+    plain Scratch (codes "x0 x1 x2 x3 x4 x5 x6 x7 x8 x9 x10 x11 x12 x13 x14 x15 x16 x17 x18") ∷
+    plain Saved (codes "x19 x20 x21 x22 x23 x24 x25 x26 x27 x28") ∷
+    labelled FramePointer (codes "x29") (codes "fp") ∷
+    labelled Scratch (codes "x30") (codes "lr") ∷
+    plain StackPointer (codes "sp") ∷
+    plain InstructionPointer (codes "pc") ∷
+    [])
 
 -- the registers of the processor of a context
 abbrev pub register_table : MinidumpRawContext → List RegisterRow

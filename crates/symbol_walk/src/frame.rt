@@ -1,11 +1,8 @@
 //! Frames with what is known of their registers.
 ghost use Rattle.std.specs.Prelude.{◌≡◌, IfOk};
-ghost use Rattle.symbol_walk.specs.Unwinder.{first_frame, frame_of, pointer_frame, pointer_value};
-ghost use Rattle.symbol_walk.specs.Unwinder.{unwinder_of};
+ghost use Rattle.symbol_walk.specs.Unwinder.{frame_of, pointer_frame, pointer_value, unwinder_of};
 
-use crate::registers::{
-    KnownRegister, Register, RegisterRole, RegisterValues, known_by, register_table,
-};
+use crate::registers::{KnownRegister, Register, RegisterRole, RegisterValues, known_by};
 use crate::unwinder::Unwinder;
 use minidump::MinidumpContext;
 use stack_walk::StackFrame;
@@ -20,26 +17,9 @@ pub struct KnownFrame {
     pub registers: Vec<KnownRegister>,
 }
 
-impl KnownFrame {
-    // Returns the frame of a context.
-    pub(crate) fn of_context(
-        alloc: Global,
-        context: &MinidumpContext,
-    ) -> Result<KnownFrame, AllocError>
-        ensures { IfOk result (λ f. frame_of f ≡ first_frame context.now) }
-    {
-        let table = register_table(&context.raw);
-        let registers = known_by(alloc, &OfContext(context), table)?;
-        Ok(KnownFrame {
-            frame: StackFrame::of_context(context),
-            registers,
-        })
-    }
-}
-
 // The valid registers of a context.
 #[derive(Clone, Copy)]
-struct OfContext<'c>(&'c MinidumpContext);
+pub(crate) struct OfContext<'c>(pub(crate) &'c MinidumpContext);
 
 impl RegisterValues for OfContext<'_> {
     ghost use Rattle.minidump.specs.Below.Contexts.Context.{registers_of, valid_value_in};

@@ -43,98 +43,56 @@ pub(crate) enum RegisterRole {
     Scratch,
 }
 
-// The registers of a table: each its label, its name and its role.
+// The registers of a table, in its order: the role of some, and their labels and names.
 macro_rules! registers {
-    ($($label:literal $name:literal $role:ident,)*) => {
-        &[$(Register { label: $label, name: $name, role: RegisterRole::$role },)*]
+    ($($role:ident: $($label:literal $name:literal),*;)*) => {
+        &[$($(Register { label: $label, name: $name, role: RegisterRole::$role },)*)*]
     };
 }
 
+#[rattlefmt::skip]
 const X86: &[Register] = registers! {
-    "$eip" "eip" InstructionPointer,
-    "$esp" "esp" StackPointer,
-    "$ebp" "ebp" FramePointer,
-    "$ebx" "ebx" Saved,
-    "$esi" "esi" Saved,
-    "$edi" "edi" Saved,
-    "$eax" "eax" Scratch,
-    "$ecx" "ecx" Scratch,
-    "$edx" "edx" Scratch,
+    InstructionPointer: "$eip" "eip";
+    StackPointer: "$esp" "esp";
+    FramePointer: "$ebp" "ebp";
+    Saved: "$ebx" "ebx", "$esi" "esi", "$edi" "edi";
+    Scratch: "$eax" "eax", "$ecx" "ecx", "$edx" "edx";
 };
 
+#[rattlefmt::skip]
 const AMD64: &[Register] = registers! {
-    "$rax" "rax" Scratch,
-    "$rdx" "rdx" Scratch,
-    "$rcx" "rcx" Scratch,
-    "$rbx" "rbx" Saved,
-    "$rsi" "rsi" Scratch,
-    "$rdi" "rdi" Scratch,
-    "$rbp" "rbp" FramePointer,
-    "$rsp" "rsp" StackPointer,
-    "$r8" "r8" Scratch,
-    "$r9" "r9" Scratch,
-    "$r10" "r10" Scratch,
-    "$r11" "r11" Scratch,
-    "$r12" "r12" Saved,
-    "$r13" "r13" Saved,
-    "$r14" "r14" Saved,
-    "$r15" "r15" Saved,
-    "$rip" "rip" InstructionPointer,
+    Scratch: "$rax" "rax", "$rdx" "rdx", "$rcx" "rcx";
+    Saved: "$rbx" "rbx";
+    Scratch: "$rsi" "rsi", "$rdi" "rdi";
+    FramePointer: "$rbp" "rbp";
+    StackPointer: "$rsp" "rsp";
+    Scratch: "$r8" "r8", "$r9" "r9", "$r10" "r10", "$r11" "r11";
+    Saved: "$r12" "r12", "$r13" "r13", "$r14" "r14", "$r15" "r15";
+    InstructionPointer: "$rip" "rip";
 };
 
+#[rattlefmt::skip]
 const ARM: &[Register] = registers! {
-    "r0" "r0" Scratch,
-    "r1" "r1" Scratch,
-    "r2" "r2" Scratch,
-    "r3" "r3" Scratch,
-    "r4" "r4" Saved,
-    "r5" "r5" Saved,
-    "r6" "r6" Saved,
-    "r7" "r7" Saved,
-    "r8" "r8" Saved,
-    "r9" "r9" Saved,
-    "r10" "r10" Saved,
-    "r11" "fp" FramePointer,
-    "r12" "r12" Scratch,
-    "sp" "sp" StackPointer,
-    "lr" "lr" Scratch,
-    "pc" "pc" InstructionPointer,
+    Scratch: "r0" "r0", "r1" "r1", "r2" "r2", "r3" "r3";
+    Saved: "r4" "r4", "r5" "r5", "r6" "r6", "r7" "r7", "r8" "r8", "r9" "r9", "r10" "r10";
+    FramePointer: "r11" "fp";
+    Scratch: "r12" "r12";
+    StackPointer: "sp" "sp";
+    Scratch: "lr" "lr";
+    InstructionPointer: "pc" "pc";
 };
 
+#[rattlefmt::skip]
 const ARM64: &[Register] = registers! {
-    "x0" "x0" Scratch,
-    "x1" "x1" Scratch,
-    "x2" "x2" Scratch,
-    "x3" "x3" Scratch,
-    "x4" "x4" Scratch,
-    "x5" "x5" Scratch,
-    "x6" "x6" Scratch,
-    "x7" "x7" Scratch,
-    "x8" "x8" Scratch,
-    "x9" "x9" Scratch,
-    "x10" "x10" Scratch,
-    "x11" "x11" Scratch,
-    "x12" "x12" Scratch,
-    "x13" "x13" Scratch,
-    "x14" "x14" Scratch,
-    "x15" "x15" Scratch,
-    "x16" "x16" Scratch,
-    "x17" "x17" Scratch,
-    "x18" "x18" Scratch,
-    "x19" "x19" Saved,
-    "x20" "x20" Saved,
-    "x21" "x21" Saved,
-    "x22" "x22" Saved,
-    "x23" "x23" Saved,
-    "x24" "x24" Saved,
-    "x25" "x25" Saved,
-    "x26" "x26" Saved,
-    "x27" "x27" Saved,
-    "x28" "x28" Saved,
-    "x29" "fp" FramePointer,
-    "x30" "lr" Scratch,
-    "sp" "sp" StackPointer,
-    "pc" "pc" InstructionPointer,
+    Scratch: "x0" "x0", "x1" "x1", "x2" "x2", "x3" "x3", "x4" "x4", "x5" "x5", "x6" "x6", "x7" "x7",
+        "x8" "x8", "x9" "x9", "x10" "x10", "x11" "x11", "x12" "x12", "x13" "x13", "x14" "x14",
+        "x15" "x15", "x16" "x16", "x17" "x17", "x18" "x18";
+    Saved: "x19" "x19", "x20" "x20", "x21" "x21", "x22" "x22", "x23" "x23", "x24" "x24",
+        "x25" "x25", "x26" "x26", "x27" "x27", "x28" "x28";
+    FramePointer: "x29" "fp";
+    Scratch: "x30" "lr";
+    StackPointer: "sp" "sp";
+    InstructionPointer: "pc" "pc";
 };
 
 // Returns the registers of the processor of a context.

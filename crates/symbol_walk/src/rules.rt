@@ -3,8 +3,8 @@ ghost use Rattle.std.specs.Prelude.{◌≡◌, IfOk, map};
 ghost use Rattle.std.specs.Option.{option_map};
 ghost use Rattle.stack_walk.specs.Frames.{stack_of};
 ghost use Rattle.symbol_walk.specs.Registers.{known_by, known_of, row_of};
-ghost use Rattle.symbol_walk.specs.Rules.{caller_by, caller_value, caller_with, end_by, goes_on};
-ghost use Rattle.symbol_walk.specs.Rules.{is_above, returns, rules_at, rules_of, unruled_value};
+ghost use Rattle.symbol_walk.specs.Rules.{caller_by, caller_value, end_by, goes_on};
+ghost use Rattle.symbol_walk.specs.Rules.{returns, rules_at, rules_of, unruled_value};
 ghost use Rattle.symbol_walk.specs.Unwinder.{frame_of, unwinder_of};
 
 use crate::registers::{
@@ -107,7 +107,20 @@ impl Rules<'_, '_, '_, '_> {
             return Ok(None);
         };
         let registers = self.caller_registers(alloc, back, by.registers)?;
-        Ok(by.caller_with(frame, back, registers))
+        let Some(stack_pointer) = known_stack_pointer(by.registers, registers.as_slice()) else {
+            return Ok(None);
+        };
+        if !goes_on(by.stack, frame, stack_pointer) {
+            return Ok(None);
+        }
+        let frame_pointer = known_frame_pointer(by.registers, registers.as_slice());
+        let frame = StackFrame {
+            instruction: back.return_address,
+            stack_pointer,
+            frame_pointer,
+            trust: FrameTrust::Cfi,
+        };
+        Ok(Some(KnownFrame { frame, registers }))
     }
 
     // Returns the registers of a table that have a value in the caller.
@@ -163,34 +176,6 @@ fn unruled_value(known: &[KnownRegister], back: Return, register: &Register) -> 
     }
 }
 
-// ---- the caller
-
-impl Unwinder<'_, '_, '_, '_> {
-    // Returns the caller with these registers, if the stack goes on at its stack pointer.
-    fn caller_with(
-        &self,
-        frame: &StackFrame,
-        back: Return,
-        registers: Vec<KnownRegister>,
-    ) -> Option<KnownFrame>
-        ensures { option_map frame_of result ≡ caller_with (unwinder_of self.now) frame.now back
-            (map known_of registers.items) }
-    {
-        let stack_pointer = known_stack_pointer(self.registers, registers.as_slice())?;
-        if !goes_on(self.stack, frame, stack_pointer) {
-            return None;
-        }
-        let frame_pointer = known_frame_pointer(self.registers, registers.as_slice());
-        let frame = StackFrame {
-            instruction: back.return_address,
-            stack_pointer,
-            frame_pointer,
-            trust: FrameTrust::Cfi,
-        };
-        Some(KnownFrame { frame, registers })
-    }
-}
-
 // Tells whether the stack of a frame goes on at an address, as the stack pointer of its caller: the
 // address lies on the stack, or is the one after it, and is above the frame.
 #[tactic(auto, unfolding(crate::specs::Rules::goes_on))]
@@ -200,18 +185,13 @@ pub(crate) fn goes_on(stack: &Stack<'_, '_>, frame: &StackFrame, address: u64) -
     let Some(memory) = stack.memory else {
         return false;
     };
-    let base = memory.base_address();
-    base <= address && address - base <= memory.bytes().len() as u64 && is_above(frame, address)
-}
-
-// Tells whether an address is above the stack pointer of a frame, or for a context's frame at it.
-fn is_above(frame: &StackFrame, address: u64) -> bool
-    ensures { result ≡ is_above frame.now address }
-{
-    match frame.trust {
+    // a context's frame may have its caller's stack pointer
+    let is_above = match frame.trust {
         FrameTrust::Context => frame.stack_pointer <= address,
         FrameTrust::Cfi | FrameTrust::FramePointer | FrameTrust::Scan | FrameTrust::Link => {
             frame.stack_pointer < address
         }
-    }
+    };
+    let base = memory.base_address();
+    base <= address && address - base <= memory.bytes().len() as u64 && is_above
 }

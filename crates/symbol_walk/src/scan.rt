@@ -3,8 +3,7 @@ ghost use Rattle.std.specs.Prelude.{◌≡◌, ◌+◌};
 ghost use Rattle.std.specs.List.{find};
 ghost use Rattle.minidump.specs.Below.System.Cpu.{pointer_bytes};
 ghost use Rattle.stack_walk.specs.Frames.{stack_of, word_candidate, word_candidates};
-ghost use Rattle.symbol_walk.specs.Scan.{is_called, restart_at, restart_of, restarts};
-ghost use Rattle.symbol_walk.specs.Scan.{scanned_words};
+ghost use Rattle.symbol_walk.specs.Scan.{restart_at, restart_of, restarts, scanned_words};
 ghost use Rattle.symbol_walk.specs.Unwinder.{unwinder_of};
 
 use crate::rules::goes_on;
@@ -39,31 +38,18 @@ impl Unwinder<'_, '_, '_, '_> {
     }
 
     // Returns the candidate of the aligned word that so many words come before, if the walk goes on
-    // from it.
-    #[tactic(auto, unfolding(crate::specs::Scan::restarts))]
+    // from it: the stack goes on there, and its call lies in a function of the symbols.
+    #[tactic(auto, unfolding(crate::specs::Scan::restarts, crate::specs::Scan::in_function))]
     fn restart_at(&self, frame: &StackFrame, first: u64, index: u64) -> Option<StackFrame>
         ensures { result ≡ restart_at (unwinder_of self.now) frame.now (first + index) }
     {
         let candidate = word_candidate(self.stack, first, index)?;
-        if goes_on(self.stack, frame, candidate.stack_pointer) && self.is_called(&candidate) {
-            Some(candidate)
-        } else {
-            None
+        if !goes_on(self.stack, frame, candidate.stack_pointer) {
+            return None;
         }
-    }
-
-    // Tells whether the call of a candidate lies in a function of the symbols.
-    #[tactic(auto, unfolding(crate::specs::Scan::in_function))]
-    fn is_called(&self, candidate: &StackFrame) -> bool
-        ensures { result ≡ is_called (unwinder_of self.now) candidate.now }
-    {
-        let Some(address) = candidate.lookup_address(self.stack.cpu) else {
-            return false;
-        };
-        match self.symbols_at(address) {
-            Some((symbols, offset)) => has_function(symbols, offset),
-            None => false,
-        }
+        let call = candidate.lookup_address(self.stack.cpu)?;
+        let (symbols, offset) = self.symbols_at(call)?;
+        has_function(symbols, offset).then_some(candidate)
     }
 }
 

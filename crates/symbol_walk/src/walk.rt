@@ -10,7 +10,8 @@ ghost use Rattle.symbol_walk.specs.Walk.{end_of, plain_frames, symbol_walk_in, s
 ghost use Rattle.symbol_walk.specs.Walk.{walk_from};
 
 use crate::KnownFrame;
-use crate::registers::register_table;
+use crate::frame::OfContext;
+use crate::registers::{known_by, register_table};
 use crate::unwinder::Unwinder;
 use breakpad_symbols::SymbolFile;
 use minidump::{Error, MinidumpContext};
@@ -64,7 +65,10 @@ pub fn walk_by_symbols(
         symbols,
         registers: register_table(&context.raw),
     };
-    let first = KnownFrame::of_context(alloc, context)?;
+    let first = KnownFrame {
+        frame: StackFrame::of_context(context),
+        registers: known_by(alloc, &OfContext(context), by.registers)?,
+    };
     Ok(by.walk(alloc, first, link_of(context), limit)?)
 }
 

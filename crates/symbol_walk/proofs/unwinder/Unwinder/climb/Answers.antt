@@ -1,10 +1,10 @@
 -- A caller more, or the end.
-use Rattle.std.proofs.Common.{◌∙◌, ap, map, sym}
+use Rattle.std.proofs.Common.{◌∙◌, ◌++◌, ◌∷◌, ap, append_assoc, map, sym}
 use Rattle.std.specs.Option.{option_map}
 use Rattle.std.proofs.lemmas.List.{map-append}
 use Rattle.symbol_walk.specs.Unwinder.{frame_of, unwinder_of}
 use Rattle.symbol_walk.proofs.ReachLemmas.{falls}
-use Rattle.symbol_walk.proofs.UpLemmas.{walked, walking_more}
+use Rattle.symbol_walk.proofs.UpLemmas.{callers_done, callers_next}
 use Rattle.symbol_walk.proofs.unwinder.Unwinder.climb.Goals as goal
 
 pub loop-last-smaller : goal.loop-last-smaller
@@ -14,14 +14,17 @@ loop-last-smaller c =
 
 pub loop-last-preserved : goal.loop-last-preserved
 loop-last-preserved c =
-    walking_more (unwinder_of c.args.self.now) _ (frame_of c.loop-last.last) _ _ _
-    (ap (map frame_of) c.in_ok-push.ensures.items ∙ map-append frame_of c.loop-last.frames.items _)
-    (sym c.in_ok-caller.ensures ∙ ap (option_map frame_of) c.in-Some.is) c.loop-last.invariant
+    let next = callers_next (unwinder_of c.args.self.now) (frame_of c.loop-last.last) (frame_of c.in-Some.caller)
+    (sym c.in_ok-caller.ensures ∙ ap (option_map frame_of) c.in-Some.is) in
+    record {
+      frames = rw (c.in_ok-push.ensures.items, map-append, append_assoc, next.0) c.loop-last.invariant.frames;
+      last = next.1 ∙ c.loop-last.invariant.last;
+    }
 
-pub returns-clause-frames : goal.returns-clause-frames
-returns-clause-frames c =
-    (walked (unwinder_of c.args.self.now) _ _ _ (sym c.in_ok-caller.ensures ∙ ap (option_map frame_of) c.in_default.is) c.loop-last.invariant).0
-
-pub returns-clause-last : goal.returns-clause-last
-returns-clause-last c =
-    (walked (unwinder_of c.args.self.now) _ _ _ (sym c.in_ok-caller.ensures ∙ ap (option_map frame_of) c.in_default.is) c.loop-last.invariant).1
+pub returns : goal.returns
+returns c =
+    let done = callers_done (unwinder_of c.args.self.now) (frame_of c.loop-last.last) (sym c.in_ok-caller.ensures ∙ ap (option_map frame_of) c.in_default.is) in
+    record {
+      frames = ap (λ callers. map frame_of c.loop-last.frames.items ++ (frame_of c.loop-last.last ∷ callers)) done.0 ∙ c.loop-last.invariant.frames;
+      last = done.1 ∙ c.loop-last.invariant.last;
+    }
