@@ -2,7 +2,6 @@
 pub mod AddressLemmas
 pub mod ArgumentLemmas
 pub mod CommandLemmas
-pub mod JoinLemmas
 pub mod ListLemmas
 pub mod PrintLemmas
 pub mod ReportLemmas

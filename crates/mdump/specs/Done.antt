@@ -10,12 +10,12 @@ use Rattle.minidump.specs.declared.Error.TheVariants.{IoError, OutOfMemory}
 use Rattle.minidump.specs.Below.Format.Error.{name_of_error}
 use Rattle.minidump.specs.Below.Format.Print.{out_of_memory}
 use Rattle.minidump.specs.Below.MemoryLists.Memory.{range_of_region}
-use Rattle.minidump.specs.Below.MemoryLists.Unified.{UnifiedRegion, unified_regions}
+use Rattle.minidump.specs.Below.MemoryLists.Unified.{unified_regions}
 use Rattle.minidump.specs.Below.MemoryLists.MapLine.{MapRegion}
 use Rattle.minidump.specs.Below.MemoryLists.MemoryInfo.{MemoryInfo}
-use Rattle.minidump.specs.Below.MemoryLists.UnifiedInfo.{InfoRegion, InfoRegions, OfInfo, OfMaps}
+use Rattle.minidump.specs.Below.MemoryLists.UnifiedInfo.{InfoRegions, OfInfo, OfMaps}
 use Rattle.minidump.specs.Below.MemoryLists.UnifiedInfo.{range_of_info_region, info_regions}
-use Rattle.minidump.specs.Below.Modules.Module.{ModuleValue, range_of_module}
+use Rattle.minidump.specs.Below.Modules.Module.{range_of_module}
 use Rattle.minidump.specs.Dump.{Dump, stream_of}
 use Rattle.minidump.specs.File.{IsFileDump, IsPathError}
 use Rattle.minidump.specs.Memory.{memories_of_dump}
@@ -24,9 +24,10 @@ use Rattle.minidump.specs.Promise.{linux_maps_stream, memory_info_list_stream}
 use Rattle.minidump.specs.Report.{report_text}
 use Rattle.minidump.specs.Text.{dump_text}
 use Rattle.mdump.specs.declared.command.Command.{Command}
-use Rattle.mdump.specs.declared.command.Command.TheVariants.{Dir, At, Report}
+use Rattle.mdump.specs.declared.command.Task.{Task}
+use Rattle.mdump.specs.declared.command.Task.TheVariants.{Dir, At, Report}
 use Rattle.mdump.specs.Command.{IsCommand, IsCommandOf}
-use Rattle.mdump.specs.Lines.{IsLookedUpIn, IsJoinOf, info_line, memory_line, module_line}
+use Rattle.mdump.specs.Lines.{info_line, looked_up_in, memory_line, module_line}
 
 -- the help
 abbrev pub usage : List ℕ
@@ -47,33 +48,6 @@ told_of [] = Some usage
 told_of (word ∷ []) = told_by word
 told_of (word ∷ next ∷ words) = None
 
--- Below, `opens path answer` says what opening a path returns, and `left` which bytes a file has
--- left, where they are known.
-
--- the header and the directory of the minidump in the file of a path
-abbrev pub IsDirectoryText : {F : Type 0} → (List ℕ → Option F → Type 0) → (F → Option (List ℕ))
-    → List ℕ → List ℕ → Type 0
-IsDirectoryText opens left path text =
-    (dump : Dump) × IsFileDump opens left path dump × (text ≡ dump_text dump)
-
--- the report on the minidump in the file of a path, without names of codes
-abbrev pub IsReportText : {F : Type 0} → (List ℕ → Option F → Type 0) → (F → Option (List ℕ))
-    → List ℕ → List ℕ → Type 0
-IsReportText opens left path text =
-    (dump : Dump) × IsFileDump opens left path dump × (text ≡ report_text [] dump)
-
--- the line of the region that contains an address in the memory of a dump
-abbrev pub IsMemoryLine : Dump → ℕ → List ℕ → Type 0
-IsMemoryLine dump address text =
-    (found : Option UnifiedRegion) × IsLookedUpIn range_of_region
-    (option_map unified_regions (memories_of_dump dump)) address found × (text ≡ memory_line found)
-
--- the line of the module that contains an address
-abbrev pub IsModuleLine : Dump → ℕ → List ℕ → Type 0
-IsModuleLine dump address text =
-    (found : Option ModuleValue) × IsLookedUpIn range_of_module (modules_of_dump dump) address found
-    × (text ≡ module_line found)
-
 -- the memory information of a dump, where it can be read; else its map lines, where they can be.
 -- After a miss in the information the map lines are not looked at
 abbrev pub information_of : Option (List MemoryInfo) → Option (List MapRegion) → Option InfoRegions
@@ -86,37 +60,35 @@ info_of_dump dump =
     information_of (result_ok (stream_of memory_info_list_stream dump))
     (result_ok (stream_of linux_maps_stream dump))
 
--- the line of the region, by the information on memory, that contains an address
-abbrev pub IsInfoLine : Dump → ℕ → List ℕ → Type 0
-IsInfoLine dump address text =
-    (found : Option InfoRegion) × IsLookedUpIn range_of_info_region
-    (option_map info_regions (info_of_dump dump)) address found × (text ≡ info_line found)
+-- the lines of what lies at an address: the kept region of the memory that contains it, the kept
+-- module, and the kept region of the information on memory
+abbrev pub lines_of : Dump → ℕ → List ℕ
+lines_of dump address =
+    memory_line (looked_up_in range_of_region (option_map unified_regions (memories_of_dump dump)) address)
+    ++ (module_line (looked_up_in range_of_module (modules_of_dump dump) address)
+    ++ info_line (looked_up_in range_of_info_region (option_map info_regions (info_of_dump dump)) address))
 
--- the lines of what lies at an address: that of the memory, that of the module, and that of the region
--- by the information on memory
-abbrev pub AreLinesOf : Dump → ℕ → List ℕ → Type 0
-AreLinesOf dump address =
-    IsJoinOf (IsMemoryLine dump address) (IsJoinOf (IsModuleLine dump address) (IsInfoLine dump address))
+-- what a task prints of a minidump; its report is without names of codes
+abbrev pub text_of : Task → Dump → List ℕ
+text_of Dir dump = dump_text dump
+text_of (At address) dump = lines_of dump address
+text_of Report dump = report_text [] dump
 
--- the same of the minidump in the file of a path
-abbrev pub AreLines : {F : Type 0} → (List ℕ → Option F → Type 0) → (F → Option (List ℕ)) → List ℕ
-    → ℕ → List ℕ → Type 0
-AreLines opens left path address text =
-    (dump : Dump) × IsFileDump opens left path dump × AreLinesOf dump address text
+-- Below, `opens path answer` says what opening a path returns, and `left` which bytes a file has
+-- left, where they are known.
 
--- what a command prints on a file
-abbrev pub IsTextOf : {F : Type 0} → (List ℕ → Option F → Type 0) → (F → Option (List ℕ)) → Command
-    → List ℕ → Type 0
-IsTextOf opens left (Dir path) text = IsDirectoryText opens left path.now text
-IsTextOf opens left (At path address) text = AreLines opens left path.now address text
-IsTextOf opens left (Report path) text = IsReportText opens left path.now text
+-- what a task prints of the minidump in the file of a path
+abbrev pub IsTextOf : {F : Type 0} → (List ℕ → Option F → Type 0) → (F → Option (List ℕ)) → List ℕ
+    → Task → List ℕ → Type 0
+IsTextOf opens left path task text =
+    (dump : Dump) × IsFileDump opens left path dump × (text ≡ text_of task dump)
 
 -- the text that words ask for: the usage or the version, or that of the command that they mean
 abbrev pub IsAnswer : {F : Type 0} → (List ℕ → Option F → Type 0) → (F → Option (List ℕ))
     → List (List ℕ) → List ℕ → Type 0
 IsAnswer opens left words text =
     (told_of words ≡ Some text) ⊎ ((command : Command) × IsCommandOf words command
-    × IsTextOf opens left command text)
+    × IsTextOf opens left command.path.now command.task text)
 
 -- the device took all of one of the texts
 abbrev pub TookAll : {D : Type 0} → (List ℕ → Type 0) → (D → Option (List ℕ)) → Told D → Told D
@@ -144,12 +116,6 @@ IsFileError opens left failed path old new e =
     ((new ≡ old) × IsPathError opens left failed path e)
     ⊎ ((dump : Dump) × IsFileDump opens left path dump × (e ≡ out_of_memory new))
 
--- the path of a command
-abbrev pub path_of : Command → List ℕ
-path_of (Dir path) = path.now
-path_of (At path address) = path.now
-path_of (Report path) = path.now
-
 -- an error of the words: that of their command, and of others only that the output has failed
 abbrev pub IsCommandError : {F D : Type 0} → (List ℕ → Option F → Type 0) → (F → Option (List ℕ))
     → (F → Bool) → List (List ℕ) → Told D → Told D → Error
@@ -157,7 +123,7 @@ abbrev pub IsCommandError : {F D : Type 0} → (List ℕ → Option F → Type 0
 IsCommandError opens left failed words old new e =
     ((text : List ℕ) × (told_of words ≡ Some text) × (e ≡ IoError) × (has_failed new ≡ true))
     ⊎ ((command : Command) × IsCommandOf words command
-    × IsFileError opens left failed (path_of command) old new e)
+    × IsFileError opens left failed command.path.now old new e)
 
 -- the device took all of a text; or it has failed, and took a prefix of it
 abbrev pub IsTold : {D : Type 0} → (D → Option (List ℕ)) → Told D → Told D → List ℕ → Type 0

@@ -1,10 +1,10 @@
 -- The lines that the program writes.
-use Rattle.std.specs.Prelude.{◌≡◌, ◌++◌, ℕ, List, [], ◌∷◌, codes, Option, Some, None}
+use Rattle.std.specs.Prelude.{ℕ, List, [], ◌∷◌, codes, Option, Some, None}
 use Rattle.std.specs.List.{concat}
 use Rattle.std.specs.Option.{option_and_then}
 use Rattle.minidump.specs.Below.Bytes.Piece.{hex}
 use Rattle.minidump.specs.declared.Range.{Range}
-use Rattle.minidump.specs.Below.Index.Lookup.{IsLookedUp}
+use Rattle.minidump.specs.Below.Index.Lookup.{looked_up}
 use Rattle.minidump.specs.Below.MemoryLists.Unified.{UnifiedRegion}
 use Rattle.minidump.specs.Below.MemoryLists.UnifiedInfo.{InfoRegion, range_of_info_region}
 use Rattle.minidump.specs.Below.Modules.Module.{ModuleValue}
@@ -37,12 +37,5 @@ abbrev pub info_line : Option InfoRegion → List ℕ
 info_line found = range_line (option_and_then range_of_info_region found)
 
 -- the result of a lookup in the list of a dump: none of a dump whose list is missing or malformed
-abbrev pub IsLookedUpIn : {R : Type 0} → (R → Option Range) → Option (List R) → ℕ → Option R
-    → Type 0
-IsLookedUpIn range (Some regions) address found = IsLookedUp range regions address found
-IsLookedUpIn range None address found = found ≡ None
-
--- a line, and then other lines
-abbrev pub IsJoinOf : (List ℕ → Type 0) → (List ℕ → Type 0) → List ℕ → Type 0
-IsJoinOf IsFirst IsRest text =
-    (first rest : List ℕ) × IsFirst first × IsRest rest × (text ≡ first ++ rest)
+abbrev pub looked_up_in : {R : Type 0} → (R → Option Range) → Option (List R) → ℕ → Option R
+looked_up_in range list address = option_and_then (λ regions. looked_up range regions address) list

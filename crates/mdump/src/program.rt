@@ -1,17 +1,14 @@
 ghost use Rattle.std.specs.Prelude.{◌≡◌, IfErr, IfNone, IfSome, None, map, string_bytes};
 ghost use Rattle.std.specs.Option.{option_map};
-ghost use Rattle.minidump.specs.Below.Format.Print.{Prints, out_of_memory};
-ghost use Rattle.minidump.specs.DumpValue.{dump_of};
+ghost use Rattle.minidump.specs.Below.Format.Print.{Prints};
 ghost use Rattle.mdump.specs.Command.{IsCommand};
-ghost use Rattle.mdump.specs.Done.{AreLines, AreLinesOf, IsAnswer, IsDirectoryText, IsFileError};
-ghost use Rattle.mdump.specs.Done.{IsCommandError, IsReportText, IsRun, IsTextOf, IsTold, Writes};
-ghost use Rattle.mdump.specs.Done.{error_line, path_of, subject_of, told_of, usage};
+ghost use Rattle.mdump.specs.Done.{IsAnswer, IsCommandError, IsFileError, IsRun, IsTextOf, IsTold};
+ghost use Rattle.mdump.specs.Done.{Writes, error_line, subject_of, told_of, usage};
 
-use crate::command::Command;
-use crate::lines::{info_line, memory_line, module_line};
+use crate::command::{Command, Task};
+use crate::lines::print_lines;
 use minidump::text::put_text;
-use minidump::{CodeNames, Error, Minidump, OpenPath, Told, laws, read_file, write_report};
-use std::alloc::Global;
+use minidump::{CodeNames, Error, Minidump, OpenPath, Told, read_file, write_report};
 use std::io::Write;
 
 const USAGE: &str = "usage: mdump dir FILE | at FILE HEXADDRESS | report FILE\n";
@@ -100,89 +97,34 @@ fn answer<R: OpenPath + AllocGlobal, O: Write>(
     Some(obey(rt, command, out))
 }
 
+// Obeys a command.
 fn obey<R: OpenPath + AllocGlobal, O: Write>(
     rt: &R,
     command: Command<'_>,
     out: &mut Told<O>,
 ) -> Result<(), Error>
-    ensures written { Writes (IsTextOf (R.opens rt.now) R.File.left command.entry) O.contents
-        out.old out.new result }
-    ensures error { IfErr result
-        (IsFileError (R.opens rt.now) R.File.left R.File.failed
-        (path_of command.entry) out.old out.new) }
+    ensures written { Writes
+        (IsTextOf (R.opens rt.now) R.File.left command.entry.path.now command.entry.task)
+        O.contents out.old out.new result }
+    ensures error { IfErr result (IsFileError
+        (R.opens rt.now) R.File.left R.File.failed command.entry.path.now out.old out.new) }
 {
-    match command {
-        Command::Dir(path) => dir(rt, path, out),
-        Command::At(path, address) => at(rt, path, address, out),
-        Command::Report(path) => report(rt, path, out),
+    let alloc = rt.alloc();
+    let mut bytes = Vec::new(alloc);
+    match command.task {
+        Task::Dir => {
+            let dump = Minidump::read_path(rt, alloc, command.path, &mut bytes)?;
+            dump.print(alloc, out)
+        }
+        Task::At(address) => {
+            let dump = Minidump::read_path(rt, alloc, command.path, &mut bytes)?;
+            print_lines(&dump, alloc, address, out)
+        }
+        Task::Report => {
+            read_file(rt, command.path, &mut bytes)?;
+            write_report(alloc, bytes.as_slice(), &CodeNames::empty(), out)
+        }
     }
-}
-
-fn dir<R: OpenPath + AllocGlobal, O: Write>(
-    rt: &R,
-    path: &str,
-    out: &mut Told<O>,
-) -> Result<(), Error>
-    ensures written { Writes (IsDirectoryText
-        (R.opens rt.now) R.File.left path.now) O.contents out.old out.new result }
-    ensures error { IfErr result (IsFileError
-        (R.opens rt.now) R.File.left R.File.failed path.now out.old out.new) }
-{
-    let alloc = rt.alloc();
-    let mut bytes = Vec::new(alloc);
-    let dump = Minidump::read_path(rt, alloc, path, &mut bytes)?;
-    dump.print(alloc, out)
-}
-
-fn at<R: OpenPath + AllocGlobal, O: Write>(
-    rt: &R,
-    path: &str,
-    address: u64,
-    out: &mut Told<O>,
-) -> Result<(), Error>
-    ensures written { Writes (AreLines (R.opens rt.now) R.File.left path.now address) O.contents
-        out.old out.new result }
-    ensures error { IfErr result (IsFileError
-        (R.opens rt.now) R.File.left R.File.failed path.now out.old out.new) }
-{
-    let alloc = rt.alloc();
-    let mut bytes = Vec::new(alloc);
-    let dump = Minidump::read_path(rt, alloc, path, &mut bytes)?;
-    lines(&dump, alloc, address, out)
-}
-
-fn report<R: OpenPath + AllocGlobal, O: Write>(
-    rt: &R,
-    path: &str,
-    out: &mut Told<O>,
-) -> Result<(), Error>
-    ensures written { Writes (IsReportText (R.opens rt.now) R.File.left path.now) O.contents
-        out.old out.new result }
-    ensures error { IfErr result (IsFileError
-        (R.opens rt.now) R.File.left R.File.failed path.now out.old out.new) }
-{
-    let alloc = rt.alloc();
-    let mut bytes = Vec::new(alloc);
-    read_file(rt, path, &mut bytes)?;
-    write_report(alloc, bytes.as_slice(), &CodeNames::empty(), out)
-}
-
-// Writes the lines of what lies at the address, one after another.
-fn lines<O: Write>(
-    dump: &Minidump<'_>,
-    alloc: Global,
-    address: u64,
-    out: &mut Told<O>,
-) -> Result<(), Error>
-    ensures written { Writes (AreLinesOf (dump_of dump.now) address) O.contents
-        out.old out.new result }
-    ensures error { IfErr result (λ e. e ≡ out_of_memory out.new) }
-{
-    laws::module_laws();
-    laws::region_laws::<()>();
-    memory_line(dump, alloc, address, out)?;
-    module_line(dump, alloc, address, out)?;
-    info_line(dump, alloc, address, out)
 }
 
 /// Writes the name of an error to `err`, after what it is said of, and returns the status.

@@ -31,4 +31,4 @@ returns-in_err-hex_address-in-len3-clause-none c =
     c.word-item-then-words-lt4.is c.path-item-then-words-lt4.is c.address-item.is) in
     let first = (bytes_eq-Decides c.as_str-then-words-lt4.result.now (codes "at")).0 (sym c.if-eq-3.ensures) in
     rw c.from_residual.ensures (λ is. no_address (map string_bytes c.args.words.now)
-    c.as_str-in-len3.result.now c.as_str-in-len3-2.result.now c.hex_address.result (cc) c.in_err-hex_address-in-len3.was c.hex_address.ensures is.0 is.1)
+    c.as_str-in-len3.result.now c.as_str-in-len3-2.result.now c.hex_address.result (cc) c.in_err-hex_address-in-len3.was c.hex_address.ensures is.0.path.now is.0.task is.1)
