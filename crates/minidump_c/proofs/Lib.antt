@@ -1,4 +1,3 @@
--- Lemmas of the report, of errors and of rows.
-pub mod ErrorLemmas
+-- Lemmas of the report and of rows.
 pub mod ReportLemmas
 pub mod RowLemmas

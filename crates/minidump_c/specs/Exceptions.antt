@@ -1,12 +1,11 @@
 -- The exception that counts, as a row.
-use Rattle.std.specs.Prelude.{ℕ, length, min, replicate, Option, unwrap_or}
-use Rattle.std.specs.Option.{option_and_then, option_map_or}
+use Rattle.std.specs.Prelude.{ℕ, [], length, min, replicate, Option, None, unwrap_or}
+use Rattle.std.specs.Option.{option_map_or}
 use Rattle.crash.specs.Cause.{ExceptionValue}
 use Rattle.crash.specs.declared.contexts.ContextProblem.{ContextProblem}
 use Rattle.crash.specs.declared.contexts.ContextProblem.TheVariants.{NoSystem, NotAccepted, Outside}
 use Rattle.crash.specs.declared.records.Access.{Access}
 use Rattle.crash.specs.declared.records.Access.TheVariants.{Execute, Read, Write}
-use Rattle.crash.specs.declared.records.Sender.{Sender}
 use Rattle.minidump_c.specs.declared.exceptions.ExceptionRow.{ExceptionRow}
 use Rattle.minidump_c.specs.Spans.{flag}
 use Rattle.minidump_c.specs.Text.{buffer_with}
@@ -23,17 +22,27 @@ problem_number Outside = 1
 problem_number NoSystem = 2
 problem_number (NotAccepted size) = 3
 
--- the process that sent a signal, where it is known
-abbrev pub sender_process : Option Sender → Option ℕ
-sender_process sender = option_and_then (λ s. s.process) sender
+-- nothing is known of no exception
+abbrev pub no_exception : ExceptionValue
+no_exception = record {
+  thread = 0;
+  code = 0;
+  flags = 0;
+  at = 0;
+  nested = 0;
+  parameters = [];
+  description = None;
+  access = None;
+  sender = None;
+  address = None;
+  reason = None;
+  context_problem = None;
+}
 
--- its user
-abbrev pub sender_user : Option Sender → Option ℕ
-sender_user sender = option_and_then (λ s. s.user) sender
-
--- an exception's numbers: its parameters as far as 15 fit, with zeros after them
-abbrev pub exception_row : ExceptionValue → ExceptionRow
-exception_row e = record {
+-- the numbers of the exception that counts, if there is one: its parameters as far as 15 fit, with
+-- zeros after them
+abbrev pub exception_row : Option ExceptionValue → ExceptionRow
+exception_row given = let e = unwrap_or given no_exception in record {
   address = e.at;
   nested = e.nested;
   parameters = buffer_with e.parameters (replicate 15 0);
@@ -42,35 +51,11 @@ exception_row e = record {
   flags = e.flags;
   parameter_count = min (length e.parameters) 15;
   access = option_map_or access_number e.access 0;
-  sender = unwrap_or (sender_process e.sender) 0;
-  sender_user = unwrap_or (sender_user e.sender) 0;
-  has_exception = 1;
+  sender = option_map_or (λ s. unwrap_or s.process 0) e.sender 0;
+  sender_user = option_map_or (λ s. unwrap_or s.user 0) e.sender 0;
+  has_exception = flag given;
   is_sent = flag e.sender;
-  has_sender = flag (sender_process e.sender);
-  has_sender_user = flag (sender_user e.sender);
+  has_sender = option_map_or (λ s. flag s.process) e.sender 0;
+  has_sender_user = option_map_or (λ s. flag s.user) e.sender 0;
   context_problem = option_map_or problem_number e.context_problem 0;
 }
-
--- the numbers of none
-abbrev pub no_exception : ExceptionRow
-no_exception = record {
-  address = 0;
-  nested = 0;
-  parameters = replicate 15 0;
-  thread = 0;
-  code = 0;
-  flags = 0;
-  parameter_count = 0;
-  access = 0;
-  sender = 0;
-  sender_user = 0;
-  has_exception = 0;
-  is_sent = 0;
-  has_sender = 0;
-  has_sender_user = 0;
-  context_problem = 0;
-}
-
--- the numbers of the exception that counts, if there is one
-abbrev pub exception_part : Option ExceptionValue → ExceptionRow
-exception_part e = option_map_or exception_row e no_exception

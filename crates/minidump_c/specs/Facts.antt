@@ -1,5 +1,5 @@
 -- What is known of the address of a crash, as a row.
-use Rattle.std.specs.Prelude.{ℕ, Option, unwrap_or}
+use Rattle.std.specs.Prelude.{ℕ, false, Option, None, unwrap_or}
 use Rattle.std.specs.Option.{option_map_or}
 use Rattle.crash.specs.declared.addresses.AddressFacts.{AddressFacts}
 use Rattle.crash.specs.declared.addresses.RegionState.{RegionState}
@@ -13,9 +13,22 @@ state_number Free = 1
 state_number Reserved = 2
 state_number Committed = 3
 
--- the numbers of an address: 0 for what is unknown
-abbrev pub facts_row : AddressFacts → FactsRow
-facts_row a = record {
+-- nothing is known of no address
+abbrev pub no_facts : AddressFacts
+no_facts = record {
+  address = 0;
+  null_offset = None;
+  is_canonical = false;
+  «module» = None;
+  unloaded = None;
+  stack_of = None;
+  below_stack = None;
+  memory = None;
+}
+
+-- the numbers of the address of a crash: 0 for what is unknown, and if it has none
+abbrev pub facts_row : Option AddressFacts → FactsRow
+facts_row given = let a = unwrap_or given no_facts in record {
   address = a.address;
   null_offset = unwrap_or a.null_offset 0;
   module_offset = option_map_or (λ p. p.1) a.module 0;
@@ -24,7 +37,7 @@ facts_row a = record {
   stack_of = unwrap_or a.stack_of 0;
   below_stack = unwrap_or a.below_stack 0;
   memory_state = option_map_or (λ m. state_number m.state) a.memory 0;
-  has_address = 1;
+  has_address = flag given;
   has_null_offset = flag a.null_offset;
   is_canonical = bit a.is_canonical;
   has_module = flag a.module;
@@ -37,32 +50,3 @@ facts_row a = record {
   is_executable = option_map_or (λ m. bit m.is_executable) a.memory 0;
   is_guarded = option_map_or (λ m. bit m.is_guarded) a.memory 0;
 }
-
--- the numbers of none
-abbrev pub no_facts : FactsRow
-no_facts = record {
-  address = 0;
-  null_offset = 0;
-  module_offset = 0;
-  «module» = 0;
-  unloaded = 0;
-  stack_of = 0;
-  below_stack = 0;
-  memory_state = 0;
-  has_address = 0;
-  has_null_offset = 0;
-  is_canonical = 0;
-  has_module = 0;
-  has_unloaded = 0;
-  has_stack_of = 0;
-  has_below_stack = 0;
-  has_memory = 0;
-  is_readable = 0;
-  is_writable = 0;
-  is_executable = 0;
-  is_guarded = 0;
-}
-
--- the numbers of the address of a crash, if it has one
-abbrev pub facts_part : Option AddressFacts → FactsRow
-facts_part a = option_map_or facts_row a no_facts

@@ -1,9 +1,7 @@
 -- The definitions that the contracts cite.
 pub mod Status
-pub mod Names
 pub mod Text
 pub mod Memory
-pub mod Table
 pub mod Spans
 pub mod Frames
 pub mod Tables
@@ -11,4 +9,3 @@ pub mod Exceptions
 pub mod Facts
 pub mod Numbers
 pub mod Rows
-pub mod Json

@@ -12,11 +12,9 @@ use Rattle.crash.specs.Frames.{CrashWalkValue}
 use Rattle.crash.specs.Threads.{ThreadValue, crashed_thread}
 use Rattle.crash.specs.declared.contexts.ContextOrigin.{ContextOrigin}
 use Rattle.crash.specs.declared.contexts.ContextOrigin.TheVariants.{OfException, OfThread}
-use Rattle.minidump_c.specs.declared.numbers.Counts.{Counts}
 use Rattle.minidump_c.specs.declared.numbers.CrashRow.{CrashRow}
-use Rattle.minidump_c.specs.declared.numbers.OwnTexts.{OwnTexts}
-use Rattle.minidump_c.specs.Exceptions.{exception_part}
-use Rattle.minidump_c.specs.Facts.{facts_part}
+use Rattle.minidump_c.specs.Exceptions.{exception_row}
+use Rattle.minidump_c.specs.Facts.{facts_row}
 use Rattle.minidump_c.specs.Frames.{end_number}
 use Rattle.minidump_c.specs.Spans.{flag, span_after, text_in}
 
@@ -26,9 +24,12 @@ use Rattle.minidump_c.specs.Spans.{flag, span_after, text_in}
 abbrev pub crashed : CrashValue → Option ThreadValue
 crashed c = option_map (λ p. p.1) (crashed_thread c.threads)
 
--- its registers
+-- its registers, and how they are known
 abbrev pub context_of : CrashValue → Option ContextValue
 context_of c = option_and_then (λ t. t.context) (crashed c)
+
+abbrev pub registers_of : CrashValue → List (List ℕ × ℕ)
+registers_of c = option_map_or (λ x. x.registers) (context_of c) []
 
 -- what is found in its stack
 abbrev pub walk_of : CrashValue → Option CrashWalkValue
@@ -50,15 +51,7 @@ build_of c = text_in (option_and_then (λ s. s.build) c.process.system)
 abbrev pub model_of : CrashValue → List ℕ
 model_of c = text_in (option_and_then (λ s. s.cpu_model) c.process.system)
 
--- where they lie, at the front of the buffer
-abbrev pub own_spans : CrashValue → OwnTexts
-own_spans c = record {
-  reason = span_after [] (reason_of c);
-  version = span_after (reason_of c) (version_of c);
-  build = span_after (reason_of c ++ version_of c) (build_of c);
-  cpu_model = span_after (reason_of c ++ version_of c ++ build_of c) (model_of c);
-}
-
+-- all four
 abbrev pub own_texts : CrashValue → List ℕ
 own_texts c = reason_of c ++ version_of c ++ build_of c ++ model_of c
 
@@ -94,26 +87,26 @@ abbrev pub origin_number : ContextOrigin → ℕ
 origin_number OfException = 1
 origin_number OfThread = 2
 
--- the numbers of a crash, with the spans of its texts and the sizes of its tables: 0 for what is
--- absent
-abbrev pub crash_row : CrashValue → OwnTexts → Counts → CrashRow
-crash_row c texts counts = record {
-  exception = exception_part (counted_exception c.cause);
-  facts = facts_part c.cause.address;
+-- the numbers of a crash, whose texts lie at the front of the buffer, with the number of rows of frames
+-- and of the bytes of all texts: 0 for what is absent
+abbrev pub crash_row : CrashValue → ℕ → ℕ → CrashRow
+crash_row c frames texts = record {
+  exception = exception_row (counted_exception c.cause);
+  facts = facts_row c.cause.address;
   uptime = unwrap_or c.process.uptime 0;
   thread_index = unwrap_or c.threads.crashing 0;
   damage_count = length c.damage;
   register_size = option_map_or (λ x. x.size) (context_of c) 0;
-  frame_count = counts.frames;
-  register_count = counts.registers;
-  thread_count = counts.threads;
-  module_count = counts.modules;
-  unloaded_count = counts.unloaded;
-  texts_len = counts.texts;
-  reason = texts.reason;
-  version = texts.version;
-  build = texts.build;
-  cpu_model = texts.cpu_model;
+  frame_count = frames;
+  register_count = length (registers_of c);
+  thread_count = length c.threads.threads;
+  module_count = length c.modules.loaded;
+  unloaded_count = length c.modules.unloaded;
+  texts_len = texts;
+  reason = span_after [] (reason_of c);
+  version = span_after (reason_of c) (version_of c);
+  build = span_after (reason_of c ++ version_of c) (build_of c);
+  cpu_model = span_after (reason_of c ++ version_of c ++ build_of c) (model_of c);
   thread = option_map_or (λ t. t.id) (crashed c) 0;
   process_id = unwrap_or c.process.id 0;
   written = c.directory.written;

@@ -6,7 +6,6 @@ use Rattle.minidump.specs.Below.Contexts.Context.{map_ok}
 use Rattle.minidump.specs.Below.Reasons.Names.{Lists}
 use Rattle.crash.specs.Crash.{CrashValue, crash_in}
 use Rattle.minidump_c.specs.declared.frames.FrameRow.{FrameRow}
-use Rattle.minidump_c.specs.declared.numbers.Counts.{Counts}
 use Rattle.minidump_c.specs.declared.numbers.CrashRow.{CrashRow}
 use Rattle.minidump_c.specs.declared.rows.Rows.{Rows}
 use Rattle.minidump_c.specs.declared.tables.ModuleRow.{ModuleRow}
@@ -14,10 +13,9 @@ use Rattle.minidump_c.specs.declared.tables.RegisterRow.{RegisterRow}
 use Rattle.minidump_c.specs.declared.tables.ThreadRow.{ThreadRow}
 use Rattle.minidump_c.specs.declared.tables.UnloadedRow.{UnloadedRow}
 use Rattle.minidump_c.specs.Frames.{frame_rows}
-use Rattle.minidump_c.specs.Numbers.{context_of, crash_row, own_spans, own_texts, walk_of}
+use Rattle.minidump_c.specs.Numbers.{crash_row, own_texts, registers_of, walk_of}
 use Rattle.minidump_c.specs.Spans.{rows_after, texts_after}
 use Rattle.minidump_c.specs.Tables.{module_row, register_row, thread_row, unloaded_row}
-use Rattle.minidump_c.specs.Tables.{with_module, with_register, with_thread, with_unloaded}
 use Rattle.minidump_c.specs.Text.{buffer_with}
 
 -- the numbers, the frames and registers of the thread that crashed, the threads, the modules, the
@@ -45,60 +43,33 @@ rows_value r = record {
 
 -- ---- the rows of a crash
 
--- the registers of the thread that crashed
-abbrev pub registers_of : CrashValue → List (List ℕ × ℕ)
-registers_of c = option_map_or (λ x. x.registers) (context_of c) []
-
 -- the texts of the crash and its registers, and after them those of the threads, of the modules, and
 -- of the unloaded modules
 abbrev pub register_texts : CrashValue → List ℕ
-register_texts c = texts_after with_register (own_texts c) (registers_of c)
+register_texts c = texts_after register_row (own_texts c) (registers_of c)
 
 abbrev pub thread_texts : CrashValue → List ℕ
-thread_texts c = texts_after with_thread (register_texts c) c.threads.threads
+thread_texts c = texts_after thread_row (register_texts c) c.threads.threads
 
 abbrev pub module_texts : CrashValue → List ℕ
-module_texts c = texts_after with_module (thread_texts c) c.modules.loaded
+module_texts c = texts_after module_row (thread_texts c) c.modules.loaded
 
 abbrev pub all_texts : CrashValue → List ℕ
-all_texts c = texts_after with_unloaded (module_texts c) c.modules.unloaded
+all_texts c = texts_after unloaded_row (module_texts c) c.modules.unloaded
 
--- the tables
+-- the frames
 abbrev pub frames_of : CrashValue → List FrameRow
 frames_of c = option_map_or frame_rows (walk_of c) []
-
-abbrev pub register_rows : CrashValue → List RegisterRow
-register_rows c = rows_after register_row with_register (own_texts c) (registers_of c)
-
-abbrev pub thread_rows : CrashValue → List ThreadRow
-thread_rows c = rows_after thread_row with_thread (register_texts c) c.threads.threads
-
-abbrev pub module_rows : CrashValue → List ModuleRow
-module_rows c = rows_after module_row with_module (thread_texts c) c.modules.loaded
-
-abbrev pub unloaded_rows : CrashValue → List UnloadedRow
-unloaded_rows c = rows_after unloaded_row with_unloaded (module_texts c) c.modules.unloaded
-
--- their sizes
-abbrev pub counts_of : CrashValue → Counts
-counts_of c = record {
-  frames = length (frames_of c);
-  registers = length (register_rows c);
-  threads = length (thread_rows c);
-  modules = length (module_rows c);
-  unloaded = length (unloaded_rows c);
-  texts = length (all_texts c);
-}
 
 -- a crash as rows
 abbrev pub rows_of : CrashValue → RowsValue
 rows_of c = record {
-  crash = crash_row c (own_spans c) (counts_of c);
+  crash = crash_row c (length (frames_of c)) (length (all_texts c));
   frames = frames_of c;
-  registers = register_rows c;
-  threads = thread_rows c;
-  modules = module_rows c;
-  unloaded = unloaded_rows c;
+  registers = rows_after register_row (own_texts c) (registers_of c);
+  threads = rows_after thread_row (register_texts c) c.threads.threads;
+  modules = rows_after module_row (thread_texts c) c.modules.loaded;
+  unloaded = rows_after unloaded_row (module_texts c) c.modules.unloaded;
   texts = all_texts c;
 }
 

@@ -19,12 +19,13 @@ flag None = 0
 abbrev pub bit : Bool → ℕ
 bit is_so = if is_so then 1 else 0
 
--- the texts of items, after the bytes before them
-abbrev pub texts_after : {X : Type 0} → (List ℕ → X → List ℕ) → List ℕ → List X → List ℕ
-texts_after with_texts before [] = before
-texts_after with_texts before (x ∷ xs) = texts_after with_texts (with_texts before x) xs
+-- the rows of items, each by the texts before its own; `row` gives the row of an item, and those texts
+-- with its own
+abbrev pub rows_after : {X R : Type 0} → (List ℕ → X → R × List ℕ) → List ℕ → List X → List R
+rows_after row before [] = []
+rows_after row before (x ∷ xs) = (row before x).0 ∷ rows_after row (row before x).1 xs
 
--- the rows of items, each by the texts before its own
-abbrev pub rows_after : {X R : Type 0} → (List ℕ → X → R) → (List ℕ → X → List ℕ) → List ℕ → List X → List R
-rows_after row with_texts before [] = []
-rows_after row with_texts before (x ∷ xs) = row before x ∷ rows_after row with_texts (with_texts before x) xs
+-- the texts after those items
+abbrev pub texts_after : {X R : Type 0} → (List ℕ → X → R × List ℕ) → List ℕ → List X → List ℕ
+texts_after row before [] = before
+texts_after row before (x ∷ xs) = texts_after row (row before x).1 xs

@@ -1,9 +1,13 @@
 -- Texts in a caller's buffer.
-use Rattle.std.specs.Prelude.{◌≡◌, ℕ, List, ◌++◌, length, take, drop, Ok}
+use Rattle.std.specs.Prelude.{◌≡◌, ℕ, List, ◌++◌, length, take, drop, false, None, Result, Ok}
+use Rattle.minidump.specs.declared.Error.{Error}
+use Rattle.minidump.specs.Below.Contexts.Context.{map_ok}
 use Rattle.minidump.specs.Below.Reasons.Names.{Lists}
 use Rattle.minidump.specs.Dump.{Dump, dump_in}
 use Rattle.minidump.specs.Report.{report_text}
 use Rattle.minidump.specs.Text.{dump_text}
+use Rattle.crash.specs.Crash.{crash_in}
+use Rattle.crash_json.specs.Report.{text_of}
 
 -- a buffer with some items at its front, as far as they fit
 abbrev pub buffer_with : {A : Type 0} → List A → List A → List A
@@ -22,3 +26,10 @@ IsDirectoryOf bytes text = (dump : Dump) × (dump_in bytes ≡ Ok dump) × (text
 abbrev pub IsReportOf : List ℕ → Lists → List ℕ → Type 0
 IsReportOf bytes names text =
     (dump : Dump) × (dump_in bytes ≡ Ok dump) × (text ≡ report_text names dump)
+
+-- the JSON text of the crash of a file, without a path and the environment, and with at most so many
+-- frames a thread, or why the file is no minidump
+abbrev pub json_in : List ℕ → ℕ → ℕ → Lists → Result (List ℕ) Error
+json_in bytes scan frames names =
+    map_ok (text_of (record { frames = frames; environment = false }) None None)
+    (crash_in bytes names scan)

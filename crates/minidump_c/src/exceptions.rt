@@ -1,17 +1,15 @@
-ghost use Rattle.std.specs.Prelude.{◌≡◌, length, min, replicate};
+ghost use Rattle.std.specs.Prelude.{◌≡◌};
 ghost use Rattle.std.specs.Option.{option_copied, option_map, option_map_or};
 ghost use Rattle.crash.specs.Cause.{exception_of};
-ghost use Rattle.minidump_c.specs.Exceptions.{access_number, exception_part, exception_row};
-ghost use Rattle.minidump_c.specs.Exceptions.{problem_number, sender_process, sender_user};
-ghost use Rattle.minidump_c.specs.Text.{buffer_with};
+ghost use Rattle.minidump_c.specs.Exceptions.{access_number, exception_row, problem_number};
 
 use crate::spans::flag;
 use crate::text::fill;
-use crash::{Access, ContextProblem, CrashException, Sender};
+use crash::{Access, ContextProblem, CrashException};
 
 /// An exception. A number that is absent is 0.
 #[repr(C)]
-#[derive(Clone, Copy)]
+#[derive(Clone, Copy, Default)]
 pub struct ExceptionRow {
     /// The address at which it happened, as its record has it.
     pub address: u64,
@@ -46,95 +44,37 @@ pub struct ExceptionRow {
     pub has_sender_user: u8,
 }
 
-// The numbers of no exception.
-const NO_EXCEPTION: ExceptionRow = ExceptionRow {
-    address: 0,
-    nested: 0,
-    parameters: [0; 15],
-    thread: 0,
-    code: 0,
-    flags: 0,
-    parameter_count: 0,
-    sender: 0,
-    sender_user: 0,
-    access: 0,
-    context_problem: 0,
-    has_exception: 0,
-    is_sent: 0,
-    has_sender: 0,
-    has_sender_user: 0,
-};
-
 // Returns the numbers of the exception that counts, zeros if there is none.
-pub(crate) fn exception_part(exception: Option<&CrashException>) -> ExceptionRow
-    ensures { result ≡ exception_part (option_map exception_of (option_copied exception.entry)) }
+pub(crate) fn exception_row(exception: Option<&CrashException>) -> ExceptionRow
+    ensures { result ≡ exception_row (option_map exception_of (option_copied exception.entry)) }
 {
-    match exception {
-        Some(exception) => exception_row(exception),
-        None => NO_EXCEPTION,
-    }
-}
-
-// Returns the numbers of an exception.
-fn exception_row(exception: &CrashException) -> ExceptionRow
-    ensures { result ≡ exception_row (exception_of exception.now) }
-{
-    let parameters = exception.parameters.as_slice();
-    let (sender, sender_user) = (
-        sender_process(exception.sender),
-        sender_user(exception.sender),
-    );
+    let Some(exception) = exception else {
+        return ExceptionRow::default();
+    };
+    let sender = exception.sender;
+    let mut parameters = [0; 15];
+    let parameter_count = fill(exception.parameters.as_slice(), &mut parameters).min(15) as u32;
     ExceptionRow {
         address: exception.at,
         nested: exception.nested,
-        parameters: parameters_row(parameters),
+        parameters,
         thread: exception.thread,
         code: exception.code,
         flags: exception.flags,
-        parameter_count: parameter_count(parameters),
-        sender: sender.unwrap_or(0),
-        sender_user: sender_user.unwrap_or(0),
-        access: access_part(exception.access),
-        context_problem: problem_part(exception.context_problem),
+        parameter_count,
+        sender: sender.map_or(0, |s| s.process.unwrap_or(0)),
+        sender_user: sender.map_or(0, |s| s.user.unwrap_or(0)),
+        access: access_number(exception.access),
+        context_problem: problem_number(exception.context_problem),
         has_exception: 1,
-        is_sent: flag(&exception.sender),
-        has_sender: flag(&sender),
-        has_sender_user: flag(&sender_user),
+        is_sent: flag(&sender),
+        has_sender: sender.map_or(0, |s| flag(&s.process)),
+        has_sender_user: sender.map_or(0, |s| flag(&s.user)),
     }
 }
 
-// Returns parameters as far as 15 fit, with zeros after them.
-fn parameters_row(parameters: &[u64]) -> [u64; 15]
-    ensures { result ≡ buffer_with parameters.now (replicate 15 0) }
-{
-    let mut row = [0; 15];
-    fill(parameters, &mut row);
-    row
-}
-
-// Returns the number of parameters, at most 15.
-fn parameter_count(parameters: &[u64]) -> u32
-    ensures { result ≡ min (length parameters.now) 15 }
-{
-    parameters.len().min(15) as u32
-}
-
-// Returns the id of the process that sent a signal.
-fn sender_process(sender: Option<Sender>) -> Option<u32>
-    ensures { result ≡ sender_process sender }
-{
-    sender?.process
-}
-
-// Returns the id of the user of that process.
-fn sender_user(sender: Option<Sender>) -> Option<u32>
-    ensures { result ≡ sender_user sender }
-{
-    sender?.user
-}
-
 // Returns the number of how memory was accessed.
-fn access_part(access: Option<Access>) -> u16
+fn access_number(access: Option<Access>) -> u16
     ensures { result ≡ option_map_or access_number access 0 }
 {
     match access {
@@ -146,7 +86,7 @@ fn access_part(access: Option<Access>) -> u16
 }
 
 // Returns the number of why a context gives no registers.
-fn problem_part(problem: Option<ContextProblem>) -> u16
+fn problem_number(problem: Option<ContextProblem>) -> u16
     ensures { result ≡ option_map_or problem_number problem 0 }
 {
     match problem {

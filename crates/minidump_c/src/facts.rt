@@ -1,10 +1,8 @@
 ghost use Rattle.std.specs.Prelude.{◌≡◌};
-ghost use Rattle.std.specs.Option.{option_map_or};
-ghost use Rattle.minidump_c.specs.Facts.{facts_part, facts_row, state_number};
-ghost use Rattle.minidump_c.specs.Spans.{bit};
+ghost use Rattle.minidump_c.specs.Facts.{facts_row, state_number};
 
 use crate::spans::{bit, flag};
-use crash::{AddressFacts, AddressMemory, RegionState};
+use crash::{AddressFacts, RegionState};
 
 /// What is known of an address. A number that is absent is 0.
 #[repr(C)]
@@ -53,47 +51,24 @@ pub struct FactsRow {
     pub is_guarded: u8,
 }
 
-// The numbers of no address.
-const NO_FACTS: FactsRow = FactsRow {
+// What is known of no address.
+const NO_FACTS: AddressFacts = AddressFacts {
     address: 0,
-    null_offset: 0,
-    module_offset: 0,
-    module: 0,
-    unloaded: 0,
-    stack_of: 0,
-    below_stack: 0,
-    memory_state: 0,
-    has_address: 0,
-    has_null_offset: 0,
-    is_canonical: 0,
-    has_module: 0,
-    has_unloaded: 0,
-    has_stack_of: 0,
-    has_below_stack: 0,
-    has_memory: 0,
-    is_readable: 0,
-    is_writable: 0,
-    is_executable: 0,
-    is_guarded: 0,
+    null_offset: None,
+    is_canonical: false,
+    module: None,
+    unloaded: None,
+    stack_of: None,
+    below_stack: None,
+    memory: None,
 };
 
-// Returns what is known of the address of a crash, zeros without one.
-pub(crate) fn facts_part(facts: Option<AddressFacts>) -> FactsRow
-    ensures { result ≡ facts_part facts }
+// Returns the numbers of the address of a crash, zeros without one.
+pub(crate) fn facts_row(given: Option<AddressFacts>) -> FactsRow
+    ensures { result ≡ facts_row given }
 {
-    match facts {
-        Some(facts) => facts_row(facts),
-        None => NO_FACTS,
-    }
-}
-
-fn facts_row(facts: AddressFacts) -> FactsRow
-    ensures { result ≡ facts_row facts }
-{
+    let facts = given.unwrap_or(NO_FACTS);
     let (module, module_offset) = facts.module.unwrap_or((0, 0));
-    let (memory_state, is_readable, is_writable, is_executable, is_guarded) = memory_numbers(
-        facts.memory,
-    );
     FactsRow {
         address: facts.address,
         null_offset: facts.null_offset.unwrap_or(0),
@@ -102,8 +77,8 @@ fn facts_row(facts: AddressFacts) -> FactsRow
         unloaded: facts.unloaded.unwrap_or(0),
         stack_of: facts.stack_of.unwrap_or(0),
         below_stack: facts.below_stack.unwrap_or(0),
-        memory_state,
-        has_address: 1,
+        memory_state: facts.memory.map_or(0, |m| state_number(m.state)),
+        has_address: flag(&given),
         has_null_offset: flag(&facts.null_offset),
         is_canonical: bit(facts.is_canonical),
         has_module: flag(&facts.module),
@@ -111,31 +86,10 @@ fn facts_row(facts: AddressFacts) -> FactsRow
         has_stack_of: flag(&facts.stack_of),
         has_below_stack: flag(&facts.below_stack),
         has_memory: flag(&facts.memory),
-        is_readable,
-        is_writable,
-        is_executable,
-        is_guarded,
-    }
-}
-
-// Returns what is known of memory: its state, and whether it is readable, writable, executable and
-// guarded; zeros if nothing is.
-fn memory_numbers(memory: Option<AddressMemory>) -> (u32, u8, u8, u8, u8)
-    ensures state { result.0 ≡ option_map_or (λ m. state_number m.state) memory 0 }
-    ensures readable { result.1 ≡ option_map_or (λ m. bit m.is_readable) memory 0 }
-    ensures writable { result.2 ≡ option_map_or (λ m. bit m.is_writable) memory 0 }
-    ensures executable { result.3 ≡ option_map_or (λ m. bit m.is_executable) memory 0 }
-    ensures guarded { result.4 ≡ option_map_or (λ m. bit m.is_guarded) memory 0 }
-{
-    match memory {
-        Some(memory) => (
-            state_number(memory.state),
-            bit(memory.is_readable),
-            bit(memory.is_writable),
-            bit(memory.is_executable),
-            bit(memory.is_guarded),
-        ),
-        None => (0, 0, 0, 0, 0),
+        is_readable: facts.memory.map_or(0, |m| bit(m.is_readable)),
+        is_writable: facts.memory.map_or(0, |m| bit(m.is_writable)),
+        is_executable: facts.memory.map_or(0, |m| bit(m.is_executable)),
+        is_guarded: facts.memory.map_or(0, |m| bit(m.is_guarded)),
     }
 }
 

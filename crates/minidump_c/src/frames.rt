@@ -44,15 +44,9 @@ pub(crate) fn frames_of(
     ensures { IfOk result (λ rows. rows.items
         ≡ option_map_or frame_rows (option_map crash_walk_of (option_copied walk.entry)) []) }
 {
-    match walk {
-        Some(walk) => frame_rows(alloc, walk),
-        None => Ok(Vec::new(alloc)),
-    }
-}
-
-fn frame_rows(alloc: Global, walk: &CrashWalk) -> Result<Vec<FrameRow>, AllocError>
-    ensures { IfOk result (λ rows. rows.items ≡ frame_rows (crash_walk_of walk.now)) }
-{
+    let Some(walk) = walk else {
+        return Ok(Vec::new(alloc));
+    };
     let mut frames = rows(alloc, walk.frames.as_slice())?;
     let candidates = rows(alloc, walk.candidates.as_slice())?;
     frames.extend_from_slice(candidates.as_slice())?;

@@ -51,15 +51,11 @@
 mod exceptions;
 mod facts;
 mod frames;
-mod json;
 mod memory;
-mod name;
-mod names;
 mod numbers;
 mod rows;
 mod spans;
 mod status;
-mod table;
 mod tables;
 mod text;
 mod version;

@@ -1,15 +1,17 @@
 ghost use Rattle.std.specs.Prelude.{◌≡◌, IfErr, IfOk};
 ghost use Rattle.std.specs.Option.{option_copied, option_map};
 ghost use Rattle.minidump.specs.Below.MemoryLists.Unified.{unified_list, unified_region};
+ghost use Rattle.minidump.specs.Below.MemoryLists.Unified.{unified_regions};
 ghost use Rattle.minidump.specs.Dump.{IsDumpError};
-ghost use Rattle.minidump_c.specs.Memory.{IsLookedUpIn, IsReadAt, IsRegionAt, bytes_from, row_of};
+ghost use Rattle.minidump_c.specs.Memory.{IsReadAt, IsRegionAt, IsTableOf, IsTableOfRegions};
+ghost use Rattle.minidump_c.specs.Memory.{bytes_from, memory_at, row_of};
 ghost use Rattle.minidump_c.specs.Status.{Ends};
 ghost use Rattle.minidump_c.specs.Text.{IsFilled};
 
 use crate::status::status_of;
 use crate::text::fill;
 use minidump::{Error, Minidump, UnifiedMemory, UnifiedMemoryList};
-use std::alloc::Global;
+use std::alloc::{AllocError, Global};
 
 /// A region of memory. Its size is 0 where there is none.
 #[repr(C)]
@@ -81,13 +83,14 @@ fn memory_at<'s, 'a>(
     memory: Option<&'s UnifiedMemoryList<'a>>,
     address: u64,
 ) -> Option<UnifiedMemory<'s, 'a>>
-    ensures { IsLookedUpIn (option_map unified_list (option_copied memory.entry)) address
-        (option_map unified_region result) }
+    ensures { option_map unified_region result
+        ≡ memory_at (option_map unified_list (option_copied memory.entry)) address }
 {
     memory?.memory_at_address(address)
 }
 
-pub(crate) fn row_of(found: Option<UnifiedMemory<'_, '_>>) -> Region
+// Returns the addresses of a region, zeros if there is none.
+fn row_of(found: Option<UnifiedMemory<'_, '_>>) -> Region
     ensures { result ≡ row_of (option_map unified_region found.entry) }
 {
     match found {
@@ -99,6 +102,7 @@ pub(crate) fn row_of(found: Option<UnifiedMemory<'_, '_>>) -> Region
     }
 }
 
+// Returns the bytes of a region from the address on.
 fn bytes_from<'a>(found: Option<UnifiedMemory<'_, 'a>>, address: u64) -> &'a [u8]
     ensures { result.now ≡ bytes_from (option_map unified_region found.entry) address }
 {
@@ -107,4 +111,50 @@ fn bytes_from<'a>(found: Option<UnifiedMemory<'_, 'a>>, address: u64) -> &'a [u8
     };
     let from = address.saturating_sub(region.base_address()) as usize;
     region.bytes().get(from..).unwrap_or(&[])
+}
+
+/// Writes the regions of memory that `minidump_memory_at` finds, ascending by address, to the front
+/// of `regions`, as far as they fit, and their number to `count`.
+#[unsafe(no_mangle)]
+pub extern "C" fn minidump_memory_table(
+    alloc: Global,
+    bytes: &[u8],
+    regions: &mut [Region],
+    count: &mut usize,
+) -> u32
+    ensures { Ends result (IsFilled (IsTableOf bytes.now) regions.old regions.new count.new)
+        (IsDumpError bytes.now) ((regions.new ≡ regions.old) × (count.new ≡ count.old)) }
+{
+    match table(alloc, bytes) {
+        Ok(rows) => {
+            *count = fill(rows.as_slice(), regions);
+            0
+        }
+        Err(error) => status_of(error),
+    }
+}
+
+// Makes the table of the regions of memory.
+fn table(alloc: Global, bytes: &[u8]) -> Result<Vec<Region>, Error>
+    ensures table { IfOk result (λ rows. IsTableOf bytes.now rows.items) }
+    ensures error { IfErr result (IsDumpError bytes.now) }
+{
+    let dump = Minidump::read(alloc, bytes)?;
+    let memory = dump.get_memory(alloc)?;
+    match memory {
+        Some(list) => Ok(region_rows(alloc, &list)?),
+        None => Ok(Vec::new(alloc)),
+    }
+}
+
+// Makes the rows of the regions of memory.
+fn region_rows(alloc: Global, memory: &UnifiedMemoryList<'_>) -> Result<Vec<Region>, AllocError>
+    ensures { IfOk result (λ rows. IsTableOfRegions
+        (unified_regions (unified_list memory.now)) rows.items) }
+{
+    let mut rows = Vec::new(alloc);
+    for region in memory.by_addr() {
+        rows.push(row_of(Some(region)))?;
+    }
+    Ok(rows)
 }

@@ -65,17 +65,15 @@ pub(crate) trait MakeRow {
 
     ghost value_of: { Self → Value };
 
-    // the row of an item, by the texts before its own
-    ghost row_after: { List ℕ → Value → Self.Row };
-
-    // those texts with its own
-    ghost with_texts: { List ℕ → Value → List ℕ };
+    // the row of an item by the texts before its own, and those texts with its own
+    ghost row_after: { List ℕ → Value → Self.Row × List ℕ };
 
     /// Makes the row of the item, and appends its texts.
     fn make_row(&self, texts: &mut Vec<u8>) -> Result<Self::Row, AllocError>
-        ensures row { IfOk result (λ made. made ≡ row_after texts.old.items (value_of self.now)) }
-        ensures texts { OnOk result (texts.new.items
-            ≡ with_texts texts.old.items (value_of self.now)) };
+        ensures row { IfOk result
+            (λ row. row ≡ (row_after texts.old.items (value_of self.now)).0) }
+        ensures texts { OnOk result
+            (texts.new.items ≡ (row_after texts.old.items (value_of self.now)).1) };
 }
 
 /// Makes the rows of items, and appends their texts.
@@ -87,9 +85,9 @@ pub(crate) fn make_rows<X: MakeRow>(
 where
     X::Row: Drop,
     ensures rows { IfOk result (λ rows. rows.items
-        ≡ rows_after X.row_after X.with_texts texts.old.items (map X.value_of items.now)) }
+        ≡ rows_after X.row_after texts.old.items (map X.value_of items.now)) }
     ensures texts { OnOk result (texts.new.items
-        ≡ texts_after X.with_texts texts.old.items (map X.value_of items.now)) }
+        ≡ texts_after X.row_after texts.old.items (map X.value_of items.now)) }
 {
     let mut rows = Vec::new(alloc);
     for item in items {

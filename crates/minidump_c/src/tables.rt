@@ -1,9 +1,5 @@
-ghost use Rattle.std.specs.Prelude.{◌≡◌, length};
-ghost use Rattle.std.specs.Option.{option_map, option_map_or};
-ghost use Rattle.crash.specs.Frames.{crash_walk_of};
-
 use crate::spans::{MakeRow, Span, bit, bytes_of, flag, push_text};
-use crash::{CrashModule, CrashThread, CrashWalk, ShortContext, StackRange, UnloadedModule};
+use crash::{CrashModule, CrashThread, UnloadedModule};
 use std::alloc::AllocError;
 
 /// A register: its value, and its name.
@@ -78,7 +74,7 @@ pub struct UnloadedRow {
 
 impl MakeRow for (&'static str, u64) {
     ghost use Rattle.std.specs.Prelude.{List, ℕ};
-    ghost use Rattle.minidump_c.specs.Tables.{register_row, with_register};
+    ghost use Rattle.minidump_c.specs.Tables.{register_row};
 
     type Row = RegisterRow;
 
@@ -87,8 +83,6 @@ impl MakeRow for (&'static str, u64) {
     ghost value_of = { λ r. (r.0.now, r.1) };
 
     ghost row_after = { register_row };
-
-    ghost with_texts = { with_register };
 
     fn make_row(&self, texts: &mut Vec<u8>) -> Result<RegisterRow, AllocError> {
         let name = push_text(texts, self.0.as_bytes())?;
@@ -101,7 +95,7 @@ impl MakeRow for (&'static str, u64) {
 
 impl MakeRow for CrashThread {
     ghost use Rattle.crash.specs.Threads.{ThreadValue, thread_value};
-    ghost use Rattle.minidump_c.specs.Tables.{thread_row, with_thread};
+    ghost use Rattle.minidump_c.specs.Tables.{thread_row};
 
     type Row = ThreadRow;
 
@@ -111,21 +105,18 @@ impl MakeRow for CrashThread {
 
     ghost row_after = { thread_row };
 
-    ghost with_texts = { with_thread };
-
     fn make_row(&self, texts: &mut Vec<u8>) -> Result<ThreadRow, AllocError> {
         let name = push_text(texts, bytes_of(&self.name))?;
         let last_error = push_text(texts, bytes_of(&self.last_error))?;
-        let (stack_base, stack_size) = range_of(self.stack);
-        let (short_size, whole_size) = short_sizes(self.short_context());
+        let short = self.short_context();
         Ok(ThreadRow {
-            stack_base,
-            stack_size,
+            stack_base: self.stack.map_or(0, |s| s.base),
+            stack_size: self.stack.map_or(0, |s| s.size),
             name,
             last_error,
-            frame_count: frame_count(&self.walk),
-            short_size,
-            whole_size,
+            frame_count: self.walk.as_ref().map_or(0, |w| w.frames.len()),
+            short_size: short.map_or(0, |s| s.size),
+            whole_size: short.map_or(0, |s| s.whole),
             id: self.id,
             has_context: flag(&self.context) as u16,
             is_listed: bit(self.is_listed) as u16,
@@ -133,41 +124,9 @@ impl MakeRow for CrashThread {
     }
 }
 
-// Returns the first address and the size of a stack.
-fn range_of(stack: Option<StackRange>) -> (u64, u64)
-    ensures base { result.0 ≡ option_map_or (λ s. s.base) stack 0 }
-    ensures size { result.1 ≡ option_map_or (λ s. s.size) stack 0 }
-{
-    match stack {
-        Some(stack) => (stack.base, stack.size),
-        None => (0, 0),
-    }
-}
-
-// Returns the number of the frames of a walk.
-fn frame_count(walk: &Option<CrashWalk>) -> usize
-    ensures { result ≡ option_map_or (λ w. length w.frames) (option_map crash_walk_of walk.now) 0 }
-{
-    match walk {
-        Some(walk) => walk.frames.len(),
-        None => 0,
-    }
-}
-
-// Returns how many bytes a context has, and how many a whole one has, if it is cut.
-fn short_sizes(short: Option<ShortContext>) -> (usize, usize)
-    ensures size { result.0 ≡ option_map_or (λ s. s.size) short 0 }
-    ensures whole { result.1 ≡ option_map_or (λ s. s.whole) short 0 }
-{
-    match short {
-        Some(short) => (short.size, short.whole),
-        None => (0, 0),
-    }
-}
-
 impl MakeRow for CrashModule {
     ghost use Rattle.crash.specs.Modules.{LoadedValue, loaded_of};
-    ghost use Rattle.minidump_c.specs.Tables.{module_row, with_module};
+    ghost use Rattle.minidump_c.specs.Tables.{module_row};
 
     type Row = ModuleRow;
 
@@ -176,8 +135,6 @@ impl MakeRow for CrashModule {
     ghost value_of = { loaded_of };
 
     ghost row_after = { module_row };
-
-    ghost with_texts = { with_module };
 
     fn make_row(&self, texts: &mut Vec<u8>) -> Result<ModuleRow, AllocError> {
         let path = push_text(texts, self.path.as_bytes())?;
@@ -199,7 +156,7 @@ impl MakeRow for CrashModule {
 
 impl MakeRow for UnloadedModule {
     ghost use Rattle.crash.specs.Modules.{UnloadedModuleValue, unloaded_module_of};
-    ghost use Rattle.minidump_c.specs.Tables.{unloaded_row, with_unloaded};
+    ghost use Rattle.minidump_c.specs.Tables.{unloaded_row};
 
     type Row = UnloadedRow;
 
@@ -208,8 +165,6 @@ impl MakeRow for UnloadedModule {
     ghost value_of = { unloaded_module_of };
 
     ghost row_after = { unloaded_row };
-
-    ghost with_texts = { with_unloaded };
 
     fn make_row(&self, texts: &mut Vec<u8>) -> Result<UnloadedRow, AllocError> {
         let path = push_text(texts, self.path.as_bytes())?;

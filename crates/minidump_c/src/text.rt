@@ -1,10 +1,11 @@
-ghost use Rattle.std.specs.Prelude.{◌≡◌, [], IfErr, IfOk, length};
-ghost use Rattle.minidump_c.specs.Names.{EndsNamed, IsNamed, IsNamedError};
-ghost use Rattle.minidump_c.specs.Status.{Ends, IsTextError};
-ghost use Rattle.minidump_c.specs.Text.{IsDirectoryOf, IsFilled, IsReportOf, buffer_with};
+//! Texts in a caller's buffer.
+ghost use Rattle.std.specs.Prelude.{◌≡◌, ⊤, [], IfErr, IfOk, Ok, length};
+ghost use Rattle.minidump.specs.Below.Format.Answer.{GivesError};
+ghost use Rattle.minidump_c.specs.Status.{Ends, EndsNamed, IsNamed, IsNamedError, IsTextError};
+ghost use Rattle.minidump_c.specs.Text.{IsDirectoryOf, IsFilled, IsReportOf, buffer_with, json_in};
 
-use crate::names::CallError;
-use crate::status::status_of;
+use crate::status::{CallError, status_of};
+use crash_json::{JsonLimits, crash_json};
 use minidump::{CodeNames, Error, Minidump, Told, write_report};
 use minidump_names::NameTable;
 use std::alloc::Global;
@@ -70,6 +71,36 @@ pub extern "C" fn minidump_report_named(
     }
 }
 
+/// Reads the crash of a minidump, with the names of codes that the text `names` lists and at most
+/// `scan` candidates, and writes its JSON text to the front of `out`, as far as it fits, and the
+/// size of the whole text to `size`. The text has no path, no environment, and at most `frames`
+/// frames of a thread. With 0 frames it lacks the registers of the thread that crashed, too.
+#[unsafe(no_mangle)]
+pub extern "C" fn minidump_crash_json(
+    alloc: Global,
+    bytes: &[u8],
+    names: &[u8],
+    scan: usize,
+    frames: usize,
+    out: &mut [u8],
+    size: &mut usize,
+    line: &mut u64,
+) -> u32
+    ensures { EndsNamed result names.now line.old line.new
+        (λ lists. IsFilled (λ text. json_in bytes.now scan frames lists ≡ Ok text)
+        out.old out.new size.new)
+        (λ lists e. GivesError ⊤ e (json_in bytes.now scan frames lists))
+        ((out.new ≡ out.old) × (size.new ≡ size.old)) }
+{
+    match named_json(alloc, bytes, names, scan, frames) {
+        Ok(text) => {
+            *size = fill(text.as_slice(), out);
+            0
+        }
+        Err(error) => error.tell(line),
+    }
+}
+
 // Makes the text of the header and the directory.
 fn dir_text(alloc: Global, bytes: &[u8]) -> Result<Vec<u8>, Error>
     ensures text { IfOk result (λ text. IsDirectoryOf bytes.now text.items) }
@@ -91,6 +122,28 @@ fn named_report(alloc: Global, bytes: &[u8], names: &[u8]) -> Result<Vec<u8>, Ca
     let table = NameTable::read(alloc, names)?;
     let lists = table.lists(alloc)?;
     Ok(report(alloc, bytes, &lists.code_names())?)
+}
+
+// Makes the JSON text with the names of a text.
+fn named_json(
+    alloc: Global,
+    bytes: &[u8],
+    names: &[u8],
+    scan: usize,
+    frames: usize,
+) -> Result<Vec<u8>, CallError>
+    ensures text { IfOk result (λ text. IsNamed names.now
+        (λ lists text. json_in bytes.now scan frames lists ≡ Ok text) text.items) }
+    ensures error { IfErr result (IsNamedError names.now
+        (λ lists e. GivesError ⊤ e (json_in bytes.now scan frames lists))) }
+{
+    let table = NameTable::read(alloc, names)?;
+    let lists = table.lists(alloc)?;
+    let limits = JsonLimits {
+        frames,
+        environment: false,
+    };
+    Ok(crash_json(alloc, None, bytes, &lists.code_names(), scan, &limits)?)
 }
 
 // Makes the report. A vector fails to take bytes only where memory runs out.

@@ -4,7 +4,7 @@ use Rattle.std.specs.Prelude.{Some}
 use Rattle.minidump.specs.Below.MemoryLists.Unified.{unified_region}
 use Rattle.minidump.specs.Below.MemoryLists.UnifiedIter.{regions_by_address}
 use Rattle.minidump_c.specs.Memory.{row_of}
-use Rattle.minidump_c.proofs.table.region_rows.Goals as goal
+use Rattle.minidump_c.proofs.memory.region_rows.Goals as goal
 
 pub loop-region-init : goal.loop-region-init
 loop-region-init c = (

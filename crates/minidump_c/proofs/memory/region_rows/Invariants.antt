@@ -4,8 +4,8 @@ use Rattle.std.specs.Prelude.{Some}
 use Rattle.minidump.specs.Below.MemoryLists.Unified.{unified_list, unified_regions}
 use Rattle.minidump.specs.Below.MemoryLists.UnifiedIter.{regions_by_address}
 use Rattle.minidump_c.specs.Memory.{row_of}
-use Rattle.minidump_c.specs.Table.{IsTableOfRegions}
-use Rattle.minidump_c.proofs.table.region_rows.Given as goal
+use Rattle.minidump_c.specs.Memory.{IsTableOfRegions}
+use Rattle.minidump_c.proofs.memory.region_rows.Given as goal
 
 abbrev pub invariant-loop-region : goal.invariant-loop-region
 invariant-loop-region l =

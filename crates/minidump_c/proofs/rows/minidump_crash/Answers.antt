@@ -6,4 +6,4 @@ use Rattle.minidump_c.proofs.rows.minidump_crash.Goals as goal
 pub returns-in-Ok : goal.returns-in-Ok
 returns-in-Ok c =
     let named = c.in-Ok.ensures.rows in
-    inr (named.0, named.1, inl (refl, (rows_value c.in-Ok.rows, named.2, c.tell.ensures)), refl)
+    inr (named.0, named.1, inl (refl, (rows_value c.in-Ok.rows, named.2, (cc))), refl)

@@ -5,8 +5,8 @@ use Rattle.minidump_c.proofs.spans.make_rows.Given as goal
 
 abbrev pub invariant-loop-item : goal.invariant-loop-item
 invariant-loop-item g l = record {
-  rows : l.rows.items ++ rows_after g.X.MakeRow.row_after g.X.MakeRow.with_texts l.texts.items (map g.X.MakeRow.value_of (drop l.item-index l.items))
-      ≡ rows_after g.X.MakeRow.row_after g.X.MakeRow.with_texts l.fn.texts.items (map g.X.MakeRow.value_of l.items);
-  texts : texts_after g.X.MakeRow.with_texts l.texts.items (map g.X.MakeRow.value_of (drop l.item-index l.items))
-      ≡ texts_after g.X.MakeRow.with_texts l.fn.texts.items (map g.X.MakeRow.value_of l.items);
+  rows : l.rows.items ++ rows_after g.X.MakeRow.row_after l.texts.items (map g.X.MakeRow.value_of (drop l.item-index l.items))
+      ≡ rows_after g.X.MakeRow.row_after l.fn.texts.items (map g.X.MakeRow.value_of l.items);
+  texts : texts_after g.X.MakeRow.row_after l.texts.items (map g.X.MakeRow.value_of (drop l.item-index l.items))
+      ≡ texts_after g.X.MakeRow.row_after l.fn.texts.items (map g.X.MakeRow.value_of l.items);
 }
