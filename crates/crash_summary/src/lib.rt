@@ -16,23 +16,21 @@ ghost use Rattle.std.specs.Prelude.{◌≡◌, IfOk, IsOkUnless, string_bytes};
 ghost use Rattle.std.specs.Option.{option_copied, option_map};
 ghost use Rattle.minidump.specs.Below.Format.Answer.{Gives};
 ghost use Rattle.minidump.specs.Below.MemoryLists.Unified.{unified_list};
-ghost use Rattle.minidump.specs.Below.Reasons.ReasonText.{reason_text};
 ghost use Rattle.minidump.specs.Dump.{HasEntries, dump_system};
 ghost use Rattle.minidump.specs.DumpValue.{dump_of};
 ghost use Rattle.minidump.specs.Below.Modules.ModuleList.{module_list_of};
 ghost use Rattle.minidump.specs.Promise.{exception_stream, system_info_stream};
 ghost use Rattle.minidump.specs.Promise.{thread_list_stream};
 ghost use Rattle.minidump.specs.Thread.{thread_of};
-ghost use Rattle.crash_summary.specs.Summary.{address_in, crash_context, crash_pointer, loaded_of};
-ghost use Rattle.crash_summary.specs.Summary.{memory_in, module_at, modules_in, reason_in, stack_in};
-ghost use Rattle.crash_summary.specs.Summary.{summary_at, summary_in, summary_of, threads_in};
+ghost use Rattle.crash_summary.specs.Summary.{address_in, crash_pointer, loaded_of, memory_in};
+ghost use Rattle.crash_summary.specs.Summary.{module_at, modules_in, reason_in, stack_in, summary_at};
+ghost use Rattle.crash_summary.specs.Summary.{summary_in, summary_of, threads_in};
 
 pub mod laws;
 
 use minidump::{
-    CodeNames, CrashReason, Error, Minidump, MinidumpContext, MinidumpException,
-    MinidumpModuleList, MinidumpSystemInfo, MinidumpThread, MinidumpThreadList, Module, Told,
-    UnifiedMemoryList,
+    CodeNames, Error, Minidump, MinidumpException, MinidumpModuleList, MinidumpSystemInfo,
+    MinidumpThread, MinidumpThreadList, Module, Told, UnifiedMemoryList,
 };
 use std::alloc::Global;
 
@@ -161,24 +159,8 @@ fn memory_of<'a>(alloc: Global, dump: &Minidump<'a>) -> Result<UnifiedMemoryList
     }
 }
 
-// Returns the context of a crash: the exception's, if it is accepted, else that of the thread.
-fn crash_context(
-    system: Option<&MinidumpSystemInfo>,
-    exception: &MinidumpException<'_>,
-    thread: Option<&MinidumpThread<'_>>,
-) -> Option<MinidumpContext>
-    ensures { option_map (λ c. c.raw) result
-        ≡ crash_context (option_map system_info_stream.value (option_copied system.entry))
-        (exception_stream.value exception.now) (option_map thread_of (option_copied thread.entry)) }
-{
-    let system = system?;
-    match exception.context(system, None) {
-        Some(context) => Some(context),
-        None => thread?.context(system, None),
-    }
-}
-
-// Returns the instruction pointer of that context.
+// Returns the instruction pointer of a crash: that of the exception's context, if it is accepted, else
+// that of the thread's.
 fn crash_pointer(
     system: Option<&MinidumpSystemInfo>,
     exception: &MinidumpException<'_>,
@@ -188,7 +170,11 @@ fn crash_pointer(
         ≡ crash_pointer (option_map system_info_stream.value (option_copied system.entry))
         (exception_stream.value exception.now) (option_map thread_of (option_copied thread.entry)) }
 {
-    Some(crash_context(system, exception, thread)?.get_instruction_pointer())
+    let system = system?;
+    if let Some(context) = exception.context(system, None) {
+        return Some(context.get_instruction_pointer());
+    }
+    Some(thread?.context(system, None)?.get_instruction_pointer())
 }
 
 // Returns the address of a crash, or `None` without system information.
@@ -216,20 +202,13 @@ fn reason_of(
         return Ok(None);
     };
     let reason = exception.get_crash_reason(system.os, system.cpu, names);
-    Ok(Some(text_of(alloc, &reason, names)?))
-}
-
-// Writes the text of a reason into memory. A vector takes all bytes unless memory runs out.
-fn text_of(alloc: Global, reason: &CrashReason, names: &CodeNames<'_>) -> Result<String, Error>
-    ensures value { IfOk result (λ text. string_bytes text ≡ reason_text names.now reason.now) }
-    ensures memory { IsOkUnless result Error.OutOfMemory }
-{
+    // A vector takes all bytes unless memory runs out.
     let mut out = Told::new(Vec::new(alloc));
     if reason.write_to(alloc, names, &mut out).is_err() {
         return Err(Error::OutOfMemory);
     }
     match String::from_utf8(out.into_device()) {
-        Ok(text) => Ok(text),
+        Ok(text) => Ok(Some(text)),
         Err(_) => unreachable!(),
     }
 }
