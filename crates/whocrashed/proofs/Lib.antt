@@ -1,8 +1,5 @@
-mod BelongLemmas
-mod FormLemmas
 mod GreatestLemmas
-mod LimitLemmas
 mod NumberLemmas
-mod StateLemmas
-mod Utf8Lemmas
 mod PathLemmas
+mod SymbolLemmas
+mod Utf8Lemmas

@@ -11,7 +11,7 @@ use Rattle.crash_text.specs.declared.limits.TextLimits.{TextLimits}
 use Rattle.crash_text.specs.Text as text
 use Rattle.whocrashed.specs.declared.options.Form.{Form}
 use Rattle.whocrashed.specs.declared.options.Form.TheVariants.{Html, Json, Lines}
-use Rattle.whocrashed.specs.Symbols.{AreLoaded, Belong}
+use Rattle.whocrashed.specs.Symbols.{IsSound}
 
 -- the limits of the JSON: those of the text that it has, too
 abbrev pub json_limits : TextLimits → JsonLimits
@@ -41,6 +41,5 @@ shown_with known threads = record { states = known.states; threads = threads }
 pub record IsByFiles (form : Form) (limits : TextLimits) (scan : ℕ) (path : List ℕ) (c : CrashValue)
     (printed : List ℕ) : Type 0 where
   pub known : KnownSymbols
-  pub belong : Belong c.modules.loaded known.files
-  pub loaded : AreLoaded known
+  pub sound : IsSound c.modules.loaded known
   pub same : printed ≡ form_in form limits path (Some (shown_with known (backtraces_in c known scan))) c

@@ -1,6 +1,6 @@
 -- The status of the program: by what was read at a path, of a run, and by arguments that give no
 -- options.
-use Rattle.std.specs.Prelude.{◌≡◌, ◌≤◌, ◌⊎◌, ℕ, Bool, true, false, List, [], ◌∷◌, All, Contains}
+use Rattle.std.specs.Prelude.{◌≡◌, ◌⊎◌, ℕ, Bool, true, false, List, [], fold, max}
 use Rattle.std.specs.Prelude.{Option, Some, None, Result, Ok, Err}
 use Rattle.std.specs.List.{AllZip}
 use Rattle.std.specs.Global.{Vec}
@@ -37,30 +37,30 @@ abbrev pub MayHave : {E : Type 0} → (Asked → Result (Option (Vec ℕ)) E →
     → ℕ → Type 0
 MayHave reads names scan asked status = HasStatus reads names scan asked status ⊎ (status ≡ 1)
 
--- a status is the greatest of those of dumps, each one that its dump may have, and of the first: it is one of
--- them, and none is greater
+-- a status is the greatest of those of dumps, each one that its dump may have, and of the first
 unfoldable pub IsGreatest : (Asked → ℕ → Type 0) → ℕ → List Asked → ℕ → Type 0
-IsGreatest may first dumps status = (statuses : List ℕ) × AllZip may dumps statuses
-    × Contains (first ∷ statuses) status × All (λ other. other ≤ status) (first ∷ statuses)
+IsGreatest may first dumps status =
+    (statuses : List ℕ) × AllZip may dumps statuses × (status ≡ fold max first statuses)
 
--- the list of paths by what reading it returned, if it could be read
-abbrev pub list_read : {E : Type 0} → Result (Option (Vec ℕ)) E → Option (List ℕ)
-list_read (Ok (Some bytes)) = Some bytes.items
-list_read (Ok None) = None
-list_read (Err error) = None
+-- the list of paths by what reading it returned: an empty one if it can't be read
+abbrev pub list_read : {E : Type 0} → Result (Option (Vec ℕ)) E → List ℕ
+list_read (Ok (Some bytes)) = bytes.items
+list_read (Ok None) = []
+list_read (Err error) = []
 
--- the list of paths, if it can be read: by what reading standard input may return; an empty one where none is
--- asked for
-abbrev pub IsListOf : {E : Type 0} → (Asked → Result (Option (Vec ℕ)) E → Type 0) → Bool
-    → Option (List ℕ) → Type 0
-IsListOf {E} reads true list = (read : Result (Option (Vec ℕ)) E) × reads Input read
-    × (list ≡ list_read read)
-IsListOf reads false list = list ≡ Some []
+-- the status before the dumps: what it was, or 1 where the list of paths can't be read
+abbrev pub status_before : {E : Type 0} → Result (Option (Vec ℕ)) E → ℕ → ℕ
+status_before (Ok (Some bytes)) old = old
+status_before (Ok None) old = 1
+status_before (Err error) old = 1
 
--- the status before the dumps: 1 where the list of paths can't be read, and else what it was
-abbrev pub status_before : Option (List ℕ) → ℕ → ℕ
-status_before (Some list) old = old
-status_before None old = 1
+-- the list of paths, and the status before the dumps, by what it was: by what reading standard input may
+-- return; an empty list where none is asked for
+abbrev pub IsListOf : {E : Type 0} → (Asked → Result (Option (Vec ℕ)) E → Type 0) → Bool → ℕ
+    → List ℕ → ℕ → Type 0
+IsListOf {E} reads true old list first = (read : Result (Option (Vec ℕ)) E) × reads Input read
+    × (list ≡ list_read read) × (first ≡ status_before read old)
+IsListOf reads false old list first = (list ≡ []) × (first ≡ old)
 
 -- the status where the arguments can't be had for an error of this kind: 1 where memory ran out, and
 -- else 2, since one isn't UTF-8

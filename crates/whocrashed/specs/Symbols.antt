@@ -1,8 +1,10 @@
 -- What is known of a module's symbol file after it was looked for.
-use Rattle.std.specs.Prelude.{◌≡◌, ◌≢◌, ℕ, ◌<◌, ◌==◌, Bool, not, true, List, length, map, slice_get}
-use Rattle.std.specs.Prelude.{is_some, slice_index_or, ⊤}
-use Rattle.std.specs.Prelude.{Option, Some, None, Result, Ok, Err, if◌then◌else◌}
+use Rattle.std.specs.Prelude.{◌≡◌, ◌≢◌, ℕ, ◌==◌, Bool, not, true, List, length, map, slice_get, ⊤}
+use Rattle.std.specs.Prelude.{Option, Some, None, IfSome, is_some, Result, Ok, Err, if◌then◌else◌}
 use Rattle.std.specs.Borrow.{Bor}
+use Rattle.std.specs.List.{AllZip}
+use Rattle.std.specs.Option.{option_map}
+use Rattle.std.specs.Result.{result_ok}
 use Rattle.std.specs.declared.io.ErrorKind.{ErrorKind}
 use Rattle.std.specs.declared.io.ErrorKind.TheVariants as kind
 use Rattle.breakpad_symbols.specs.SymbolFile.{SymbolsValue, symbols_of}
@@ -44,8 +46,7 @@ IsNoFile symbols reason.OutOfMemory = ⊤
 
 -- what a symbol file says that was looked for
 abbrev pub value_read : Result (Bor SymbolFile) NoSymbols → Option SymbolsValue
-value_read (Ok file) = Some (symbols_of file.now)
-value_read (Err why) = None
+value_read found = option_map (λ file. symbols_of file.now) (result_ok found)
 
 -- its state
 abbrev pub state_read : Result (Bor SymbolFile) NoSymbols → SymbolState
@@ -62,16 +63,16 @@ abbrev pub state_of_module : Option SymbolsValue → SymbolState → LoadedValue
 state_of_module (Some s) state m = if is_of_module s m then Loaded else Corrupt
 state_of_module None state m = state
 
--- each symbol file that is known, by the index of a module, is that module's
-abbrev pub Belong : List LoadedValue → List (Option SymbolsValue) → Type 0
-Belong modules files = (k : ℕ) (s : SymbolsValue) → k < length files
-    → slice_index_or files k None ≡ Some s
-    → (m : LoadedValue) × (slice_get modules k ≡ Some m) × (is_of_module s m ≡ true)
+-- a symbol file, if it is known, is that of a module
+abbrev pub Belongs : LoadedValue → Option SymbolsValue → Type 0
+Belongs m file = IfSome file (λ s. is_of_module s m ≡ true)
 
--- by the states, exactly those symbol files are loaded that are known
-abbrev pub AreLoaded : KnownSymbols → Type 0
-AreLoaded known = map are_loaded known.states ≡ map is_some known.files
+-- what is known of the symbol files of modules is sound: each file that is known is that of the module of
+-- its index, and by the states exactly those are loaded that are known
+pub record IsSound (modules : List LoadedValue) (known : KnownSymbols) : Type 0 where
+  pub belong : AllZip Belongs modules known.files
+  pub loaded : map are_loaded known.states ≡ map is_some known.files
 
--- the module of an index isn't unwanted, if there is a state of it
+-- the module of an index isn't unwanted
 abbrev pub IsAsked : List SymbolState → ℕ → Type 0
-IsAsked states index = index < length states → slice_index_or states index Unwanted ≢ Unwanted
+IsAsked states index = slice_get states index ≢ Some Unwanted

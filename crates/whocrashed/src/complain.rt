@@ -1,13 +1,11 @@
 use crash_text::push_line;
 use minidump::text::Piece;
 use std::alloc::AllocError;
-use std::io;
+use std::{fmt, io};
 
 /// Prints a text to standard error. Its failure changes nothing of the run.
 pub(crate) fn say(rt: &HostRuntime, text: &str) {
-    match eprint!(rt; "{text}") {
-        Ok(()) | Err(_) => (),
-    }
+    let _ = eprint!(rt; "{text}");
 }
 
 /// Prints a line on a path to standard error.
@@ -26,18 +24,18 @@ pub(crate) fn complain<'w>(
 }
 
 /// Prints a line on a path and an error to standard error.
-pub(crate) fn complain_of(
+pub(crate) fn complain_of<E: fmt::Display>(
     rt: &HostRuntime,
     path: &str,
-    error: &io::Error,
+    error: &E,
 ) -> Result<(), AllocError> {
     complain(rt, path, format!(in rt.alloc(); "{error}")?.as_str())
 }
 
-/// Prints a line on the error that ends the program, or that memory ran out if it did for that line
-/// too.
-pub(crate) fn complain_at_end(rt: &HostRuntime, error: &io::Error) {
-    if complain_of(rt, "whocrashed", error).is_err() {
+/// Prints a line on a path and an error to standard error, or that memory ran out if it did for that
+/// line too.
+pub(crate) fn complain_in_any_case(rt: &HostRuntime, path: &str, error: &io::Error) {
+    if complain_of(rt, path, error).is_err() {
         say(rt, "whocrashed: Out of memory\n");
     }
 }

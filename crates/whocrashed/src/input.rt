@@ -85,6 +85,7 @@ fn push_path<'l>(dumps: &mut Vec<Dump<'l>>, path: &'l [u8]) -> Result<(), AllocE
 }
 
 // Returns the dump of a path in a list.
+#[tactic(auto, using(crate::proofs::Utf8Lemmas::tells_utf8))]
 fn listed(path: &[u8]) -> Dump<'_>
     ensures { asked_of result ≡ by_list path.now }
 {

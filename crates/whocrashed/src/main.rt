@@ -36,7 +36,7 @@
 //! their order: `dumps_of`, `dumps_in`. What is read of a file is all of it, or nothing if it has
 //! more bytes than the limit: `read_to_limit`. The status of a dump is that of the crash that its
 //! bytes hold, whatever the form: `report_bytes`. It is 1 for a file that can't be read or is too
-//! large, and may be 1 for any where memory ran out: `report_each`. Arguments that give no options
+//! large, and may be 1 for any where memory ran out: `report`. Arguments that give no options
 //! have status 0 if they ask for the help or the version, 1 if memory ran out, and else 2:
 //! `answer`, `complain_of_arguments`. The status of a run is the greatest of its dumps', for
 //! whatever reads them: `report_each`, `report_dumps`. No status is above 2: `run`. A symbol file
@@ -55,22 +55,21 @@ mod program;
 mod report;
 mod symbols;
 
-use std::alloc::AllocError;
 use std::process::ExitCode;
 use std::{env, io};
 
 fn main(rt: HostRuntime) -> ExitCode {
-    let args = match env::args(&rt) {
-        Ok(args) => args,
-        Err(error) => return ExitCode::from(program::complain_of_arguments(&rt, &error)),
-    };
-    let words: Result<Vec<String>, AllocError> = args.collect(rt.alloc());
-    let Ok(words) = words else {
-        let error = io::Error::from(io::ErrorKind::OutOfMemory);
-        return ExitCode::from(program::complain_of_arguments(&rt, &error));
-    };
-    match words.as_slice() {
-        [_name, words @ ..] => ExitCode::from(program::run(&rt, words)),
-        [] => ExitCode::from(2),
-    }
+    ExitCode::from(match words_of(&rt) {
+        Ok(words) => match words.as_slice() {
+            [_name, words @ ..] => program::run(&rt, words),
+            [] => 2,
+        },
+        Err(error) => program::complain_of_arguments(&rt, &error),
+    })
+}
+
+// Returns the words that the program is called by, its own name first.
+fn words_of(rt: &HostRuntime) -> io::Result<Vec<String>> {
+    let words: Vec<String> = env::args(rt)?.collect(rt.alloc())?;
+    Ok(words)
 }

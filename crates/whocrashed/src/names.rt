@@ -1,4 +1,4 @@
-use crate::complain::{complain, complain_of};
+use crate::complain::complain_of;
 use crate::options::Options;
 use minidump_names::{NameTable, family_name, listing_in};
 use std::alloc::{AllocError, Global};
@@ -30,7 +30,7 @@ fn read_texts(rt: &HostRuntime, paths: &[&str]) -> io::Result<Option<Vec<Vec<u8>
         match fs::read(rt, *path) {
             Ok(text) => {
                 if let Err(error) = NameTable::read(rt.alloc(), &text) {
-                    complain(rt, *path, format!(in rt.alloc(); "{error}")?.as_str())?;
+                    complain_of(rt, *path, &error)?;
                     return Ok(None);
                 }
                 texts.push(text)?;

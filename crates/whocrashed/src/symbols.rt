@@ -1,13 +1,11 @@
 ghost use Rattle.std.specs.Prelude.{◌≡◌, ◌<◌, ℕ, IfErr, IfOk, None, Some, length, map, replicate};
-ghost use Rattle.std.specs.Prelude.{slice_index, true};
+ghost use Rattle.std.specs.Prelude.{slice_get, slice_index, true};
 ghost use Rattle.std.specs.List.{slice_set};
-ghost use Rattle.std.specs.Option.{option_map};
 ghost use Rattle.breakpad_symbols.specs.SymbolFile.{symbols_in, symbols_of};
-ghost use Rattle.crash.specs.Modules.{loaded_of};
+ghost use Rattle.crash.specs.Modules.{LoadedValue, loaded_of};
 ghost use Rattle.crash_symbols.specs.Modules.{is_of_module};
 ghost use Rattle.crash_symbols.specs.Symbols.{known_of};
-ghost use Rattle.whocrashed.specs.Symbols.{AreLoaded, Belong, IsAsked, IsNoFile, has_dirs};
-ghost use Rattle.whocrashed.specs.Symbols.{of_module};
+ghost use Rattle.whocrashed.specs.Symbols.{IsAsked, IsNoFile, IsSound, has_dirs, of_module};
 ghost use Rattle.whocrashed.specs.Symbols.{state_of_kind, state_of_module, state_read, state_without};
 ghost use Rattle.whocrashed.specs.Symbols.{value_read};
 
@@ -69,44 +67,32 @@ impl<'l> SymbolCache<'l> {
 
     /// Looks for the symbol files of the modules with these indices, and puts what is found into
     /// `symbols`. Afterwards none of these modules is `Unwanted`. If before each known file is that
-    /// of its module, so it is afterwards. If before exactly the modules with a known file are
-    /// `Loaded`, so they are afterwards.
+    /// of its module, and exactly the modules with a known file are `Loaded`, so it is afterwards.
     pub(crate) fn find(
         &mut self,
         modules: &[CrashModule],
         wanted: &[usize],
         symbols: &mut Symbols<'static>,
     )
-        ensures belong { Belong (map loaded_of modules.now) (known_of symbols.old).files
-            → Belong (map loaded_of modules.now) (known_of symbols.new).files }
-        ensures loaded { AreLoaded (known_of symbols.old) → AreLoaded (known_of symbols.new) }
-        ensures asked { (j : ℕ) → j < length wanted.now → slice_index wanted.now j < length modules.now
+        ensures sound { IsSound (map loaded_of modules.now) (known_of symbols.old)
+            → IsSound (map loaded_of modules.now) (known_of symbols.new) }
+        ensures asked { (j : ℕ) → j < length wanted.now
             → IsAsked (known_of symbols.new).states (slice_index wanted.now j) }
     {
         for index in wanted {
-            self.find_one(modules, *index, symbols);
+            let found = self.file_of(modules, *index);
+            put(symbols, *index, found);
         }
     }
 
-    // Does the same for one module.
-    fn find_one(&mut self, modules: &[CrashModule], index: usize, symbols: &mut Symbols<'static>)
-        ensures belong { Belong (map loaded_of modules.now) (known_of symbols.old).files
-            → Belong (map loaded_of modules.now) (known_of symbols.new).files }
-        ensures loaded { AreLoaded (known_of symbols.old) → AreLoaded (known_of symbols.new) }
-        ensures asked { index < length modules.now → IsAsked (known_of symbols.new).states index }
-        ensures stays { (k : ℕ) → IsAsked (known_of symbols.old).states k
-            → IsAsked (known_of symbols.new).states k }
+    // Returns the symbol file of the module of an index.
+    fn file_of(&mut self, modules: &[CrashModule], index: usize) -> Found
+        ensures { IfOk result (λ file. (m : LoadedValue) → slice_get (map loaded_of modules.now) index ≡ Some m
+            → is_of_module (symbols_of file.now) m ≡ true) }
     {
-        if let Some(loaded) = modules.get(index) {
-            put(symbols, index, self.file_of(loaded));
-        }
-    }
-
-    // Returns the symbol file of a module.
-    fn file_of(&mut self, loaded: &CrashModule) -> Found
-        ensures { IfOk result (λ file. is_of_module (symbols_of file.now) (loaded_of loaded.now)
-            ≡ true) }
-    {
+        let Some(loaded) = modules.get(index) else {
+            return Err(NoSymbols::Missing);
+        };
         match symbol_path(self.rt.alloc(), loaded) {
             Ok(Some(path)) => of_module(self.file_at(path), loaded),
             Ok(None) => Err(NoSymbols::Missing),
@@ -134,25 +120,19 @@ impl<'l> SymbolCache<'l> {
     // Reads the file that has this path below the first directory that has one.
     fn read(&self, path: &str) -> Result<Vec<u8>, NoSymbols> {
         for dir in self.dirs {
-            match self.read_in(*dir, path) {
-                Ok(text) => return Ok(text),
-                Err(NoSymbols::Missing) => (),
-                Err(reason) => return Err(reason),
+            let Ok(path) = format!(in self.rt.alloc(); "{dir}/{path}") else {
+                return Err(NoSymbols::OutOfMemory);
+            };
+            match read_file(self.rt, path.as_str(), self.limit) {
+                Ok(Some(text)) => return Ok(text),
+                Ok(None) => return Err(NoSymbols::Corrupt),
+                Err(error) => match reason_of(error.kind()) {
+                    NoSymbols::Missing => (),
+                    reason => return Err(reason),
+                },
             }
         }
         Err(NoSymbols::Missing)
-    }
-
-    // Reads the file that has this path below a directory.
-    fn read_in(&self, dir: &str, path: &str) -> Result<Vec<u8>, NoSymbols> {
-        let Ok(path) = format!(in self.rt.alloc(); "{dir}/{path}") else {
-            return Err(NoSymbols::OutOfMemory);
-        };
-        match read_file(self.rt, path.as_str(), self.limit) {
-            Ok(Some(text)) => Ok(text),
-            Ok(None) => Err(NoSymbols::Corrupt),
-            Err(error) => Err(reason_of(error.kind())),
-        }
     }
 }
 
@@ -190,25 +170,24 @@ fn of_module(found: Found, loaded: &CrashModule) -> Found
         (loaded_of loaded.now) }
 {
     match found {
-        Ok(file) => {
-            if is_of_module(file, loaded) {
-                Ok(file)
-            } else {
-                Err(NoSymbols::Corrupt)
-            }
-        }
+        Ok(file) if is_of_module(file, loaded) => Ok(file),
+        Ok(_) => Err(NoSymbols::Corrupt),
         Err(reason) => Err(reason),
     }
 }
 
-/// Makes the symbols of `count` modules, none of whose files was looked for.
-pub(crate) fn unknown(alloc: Global, count: usize) -> Result<Symbols<'static>, AllocError>
-    ensures files { IfOk result (λ symbols. (known_of symbols).files ≡ replicate count None) }
+/// Makes the symbols of modules, none of whose files was looked for.
+pub(crate) fn unknown(
+    alloc: Global,
+    modules: &[CrashModule],
+) -> Result<Symbols<'static>, AllocError>
+    ensures files { IfOk result (λ symbols. (known_of symbols).files
+        ≡ replicate (length modules.now) None) }
     ensures states { IfOk result (λ symbols. (known_of symbols).states
-        ≡ replicate count SymbolState.Unwanted) }
+        ≡ replicate (length modules.now) SymbolState.Unwanted) }
 {
     let mut symbols = Symbols::new(alloc);
-    for _ in 0..count {
+    for _ in modules {
         symbols.files.push(None)?;
         symbols.states.push(SymbolState::Unwanted)?;
     }
@@ -222,18 +201,8 @@ fn put(symbols: &mut Symbols<'static>, index: usize, found: Found)
     ensures states { (known_of symbols.new).states
         ≡ slice_set (known_of symbols.old).states index (state_read found.entry) }
 {
-    set_at(&mut symbols.files, index, file_read(found));
+    set_at(&mut symbols.files, index, found.ok());
     set_at(&mut symbols.states, index, state_read(found));
-}
-
-// Returns the symbol file that was found.
-fn file_read(found: Found) -> Option<&'static SymbolFile<'static>>
-    ensures { option_map (λ f. symbols_of f.now) result ≡ value_read found.entry }
-{
-    match found {
-        Ok(file) => Some(file),
-        Err(_) => None,
-    }
 }
 
 // Returns the state of a symbol file that was looked for.

@@ -7,5 +7,5 @@ use Rattle.whocrashed.proofs.program.report_each.Given as goal
 abbrev pub invariant-loop-i : goal.invariant-loop-i
 invariant-loop-i g l = record {
   bound : l.worst < 2;
-  greatest : IsGreatest (MayHave (g.S.ReadDumps.reads l.source) l.reporter.names.now l.reporter.scan) l.fn.worst (map asked_of (take l.i l.dumps)) l.worst;
+  greatest : IsGreatest (MayHave (g.S.ReadDumps.reads l.source) l.reporter.names.now l.reporter.options.now.scan) l.fn.worst (map asked_of (take l.i l.dumps)) l.worst;
 }
