@@ -2,6 +2,5 @@
 pub mod Depth
 pub mod Tokens
 pub mod TreeDepth
-pub mod NumberedLemmas
 pub mod PointLemmas
 pub mod SignatureLemmas

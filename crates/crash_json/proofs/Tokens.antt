@@ -2,18 +2,18 @@
 use Rattle.std.specs.List.{enumerate_from, flat_map}
 use Rattle.std.specs.Option.{option_map}
 use Rattle.std.specs.Result.{result_ok}
-use Rattle.std.proofs.lemmas.List.{drop_all}
+use Rattle.std.proofs.lemmas.List.{drop_all, length-map}
 use Rattle.std.proofs.lemmas.Simd.{map-map}
 use Rattle.std.proofs.Common.{◌<◌, ◌+◌, suc, length, get_or, drop, add-one, drop-cons, ◌≡◌, ◌∙◌, ◌≤◌, ℕ, List, [], ◌∷◌, ◌++◌, Option, Some, None, Result, Ok}
 use Rattle.std.proofs.Common.{Err, map, option_and_then, refl, ap, sym, append_assoc, append-nil}
 use Rattle.json.specs.Token.{Token, begin_object, end_object, begin_array, end_array}
-use Rattle.json.specs.Json.{Json, document, if_last, max_depth, value}
+use Rattle.json.specs.Json.{Json, array, document, if_last, max_depth, value}
 use Rattle.json.specs.Lex.{tokens}
 use Rattle.json.proofs.Printed.Trees.{value-json_tokens}
 use Rattle.json.specs.Tree.{json_tokens, members_tokens, items_tokens, depth}
 use Rattle.minidump.specs.declared.Error.{Error}
 use Rattle.minidump.specs.Below.Contexts.Context.{map_ok}
-use Rattle.crash_json.specs.Tree.{array_of, items_of, member_list_tokens, members_of, object_of, or_null}
+use Rattle.crash_json.specs.Tree.{array_of, items_of, member_list_tokens, members_of, numbered_array_of, object_of, or_null}
 
 members_of_list : (ms : List (List ℕ × Json)) → members_tokens (members_of ms) ≡ member_list_tokens ms ++ (end_object ∷ [])
 unfolding member_list_tokens
@@ -108,6 +108,26 @@ pub document_of_put : (text printed : List ℕ) (before after : List Token) (j :
 document_of_put text printed before after j is read put begin shallow =
     document_of_tokens text j (ap tokens is ∙ read ∙ put ∙ ap (λ ts. ts ++ json_tokens j) begin) shallow
 
+-- ---- the values that items stand for
+
+numbered_from : {X V : Type 0} (json : ℕ → V → Json) (value : X → V) (n : ℕ) (xs : List X)
+    → map (λ p. json p.0 p.1) (enumerate_from n (map value xs)) ≡ map (λ p. json p.0 (value p.1)) (enumerate_from n xs)
+numbered_from json value n [] = refl
+numbered_from json value n (x ∷ xs) = ap (λ js. json n (value x) ∷ js) (numbered_from json value (n + 1) xs)
+
+pub numbered_values : {X V : Type 0} (json : ℕ → V → Json) (value : X → V) (xs : List X)
+    → numbered_array_of json (map value xs) ≡ numbered_array_of (λ n x. json n (value x)) xs
+numbered_values json value xs = ap (λ js. array (items_of js)) (numbered_from json value 0 xs)
+
+-- a member whose value is the array of the values of items, by their numbers
+pub named_array : {X V : Type 0} (json wanted : ℕ → V → Json) (value : X → V) (xs : List X) (vs : List V) (name : List ℕ) (t u v : List Token)
+    → json ≡ wanted → map value xs ≡ vs → u ≡ t ++ (Token.key name ∷ []) → v ≡ u ++ json_tokens (numbered_array_of (λ n x. json n (value x)) xs)
+    → v ≡ t ++ member_list_tokens ((name, numbered_array_of wanted vs) ∷ [])
+named_array json wanted value xs vs name t u v is values key put =
+    let same : numbered_array_of (λ n x. json n (value x)) xs ≡ numbered_array_of wanted vs =
+    sym (numbered_values json value xs) ∙ ap (numbered_array_of json) values ∙ ap (λ f. numbered_array_of f vs) is in
+    named t u v name (numbered_array_of wanted vs) key (put ∙ ap (λ j. u ++ json_tokens j) same)
+
 -- a value that an item stands for, and that of a stream, each of which may be absent
 pub or_null_of_views : {X Y : Type 0} (json : Y → Json) (view : X → Y) (o : Option X) → or_null json (option_map view o) ≡ or_null (λ x. json (view x)) o
 or_null_of_views json view None = refl
@@ -117,5 +137,5 @@ pub or_null_of_found : {X Y : Type 0} (json : Y → Json) (view : X → Y) (foun
 or_null_of_found json view (Ok x) = refl
 or_null_of_found json view (Err e) = refl
 
--- the values of items are those of what they stand for
-pub ruleset views = (map-map, or_null_of_views, or_null_of_found)
+-- lists, numbered ones and absent values of items are those of what the items stand for
+pub ruleset views = (map-map, or_null_of_views, or_null_of_found, numbered_values, length-map)

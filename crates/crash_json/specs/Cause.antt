@@ -1,5 +1,5 @@
 -- Where and why a process crashed, as JSON.
-use Rattle.std.specs.Prelude.{ℕ, List, [], ◌∷◌, codes, Option, Result, Ok, Err}
+use Rattle.std.specs.Prelude.{ℕ, List, [], ◌∷◌, ◌++◌, codes, Option, Result, Ok, Err}
 use Rattle.std.specs.Option.{option_and_then, option_map}
 use Rattle.std.specs.Result.{result_ok}
 use Rattle.json.specs.Json.{Json, boolean, null, string}
@@ -27,21 +27,19 @@ use Rattle.crash_json.specs.Tree.{array_of, count, hex_string, object_of, or_nul
 abbrev pub expression_in : Result MINIDUMP_ASSERTION_INFO Error → Option (List ℕ)
 expression_in a = option_and_then (λ a. text_before_nul a.expression) (result_ok a)
 
--- a crash by the words for its reason, its address, the index of its thread, and the expression of
--- an assertion
-unfoldable pub crash_object : Option (List ℕ) → Option ℕ → Option ℕ → Option (List ℕ) → Json
-crash_object reason address thread assertion = object_of (
-    (codes "type", or_null string reason)
-    ∷ (codes "address", or_null hex_string address)
-    ∷ (codes "crashing_thread", or_null count thread)
-    ∷ (codes "assertion", or_null string assertion)
-    ∷ [])
-
 -- the crash: by the exception that counts
-abbrev pub crash_info_json : CrashValue → Json
-crash_info_json c = crash_object (option_and_then (λ e. e.reason) (counted_exception c.cause))
-    (option_and_then (λ e. e.address) (counted_exception c.cause)) c.threads.crashing
-    (expression_in c.contents.messages.assertion)
+unfoldable pub crash_info_json : CrashValue → Json
+crash_info_json c = object_of ((
+  codes "type",
+  or_null string (option_and_then (λ e. e.reason) (counted_exception c.cause)),
+)
+    ∷ (
+      codes "address",
+      or_null hex_string (option_and_then (λ e. e.address) (counted_exception c.cause)),
+    )
+    ∷ (codes "crashing_thread", or_null count c.threads.crashing)
+    ∷ (codes "assertion", or_null string (expression_in c.contents.messages.assertion))
+    ∷ [])
 
 -- ---- exceptions
 
@@ -124,19 +122,23 @@ memory_json m = object_of (
     ∷ (codes "is_guarded", boolean m.is_guarded)
     ∷ [])
 
+-- the index of a module and the offset in it
+abbrev pub place_members : Option (ℕ × ℕ) → List (List ℕ × Json)
+place_members place = (codes "module", or_null count (option_map (λ p. p.0) place))
+    ∷ (codes "module_offset", or_null hex_string (option_map (λ p. p.1) place)) ∷ []
+
 -- what is known of an address, as members
 unfoldable pub address_members : AddressFacts → List (List ℕ × Json)
 address_members a =
     (codes "address", hex_string a.address)
     ∷ (codes "null_offset", or_null hex_string a.null_offset)
     ∷ (codes "is_canonical", boolean a.is_canonical)
-    ∷ (codes "module", or_null count (option_map (λ p. p.0) a.module))
-    ∷ (codes "module_offset", or_null hex_string (option_map (λ p. p.1) a.module))
-    ∷ (codes "unloaded_module", or_null count a.unloaded)
+    ∷ (place_members a.module
+    ++ ((codes "unloaded_module", or_null count a.unloaded)
     ∷ (codes "stack_of", or_null count a.stack_of)
     ∷ (codes "below_stack", or_null count a.below_stack)
     ∷ (codes "memory", or_null memory_json a.memory)
-    ∷ []
+    ∷ []))
 
 -- what is known of an address
 abbrev pub address_json : AddressFacts → Json

@@ -19,30 +19,21 @@ annotations_json entries = array_of annotation_json entries
 abbrev pub objects_json : List (List ℕ × Annotation) → Json
 objects_json entries = array_of (λ e. annotation_json (e.0, annotation_text e.1)) entries
 
--- the texts of a list
-abbrev pub texts_json : List (List ℕ) → Json
-texts_json texts = array_of string texts
-
 -- the annotations of a module: the index that its link states in the list of modules, its list of
 -- texts, its dictionary, and those that have a type
 unfoldable pub crashpad_module_json : Module → Json
 crashpad_module_json m = object_of (
     (codes "module_index", count m.module_index)
-    ∷ (codes "list", texts_json m.list_annotations)
+    ∷ (codes "list", array_of string m.list_annotations)
     ∷ (codes "annotations", annotations_json m.simple_annotations)
     ∷ (codes "objects", objects_json m.annotation_objects)
     ∷ [])
 
--- Crashpad's information by the texts of its two identifiers: these, the annotations of the process,
--- and those of its modules
-unfoldable pub crashpad_object : Crashpad → List ℕ → List ℕ → Json
-crashpad_object c report_id client_id = object_of (
-    (codes "report_id", string report_id)
-    ∷ (codes "client_id", string client_id)
+-- Crashpad's information: its two identifiers, the annotations of the process, and those of its modules
+unfoldable pub crashpad_json : Crashpad → Json
+crashpad_json c = object_of (
+    (codes "report_id", string (guid_text c.raw.report_id))
+    ∷ (codes "client_id", string (guid_text c.raw.client_id))
     ∷ (codes "annotations", annotations_json c.simple_annotations)
     ∷ (codes "modules", array_of crashpad_module_json c.module_list)
     ∷ [])
-
--- the same by its value
-abbrev pub crashpad_json : Crashpad → Json
-crashpad_json c = crashpad_object c (guid_text c.raw.report_id) (guid_text c.raw.client_id)

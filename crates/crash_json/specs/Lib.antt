@@ -13,5 +13,4 @@ pub mod Linux
 pub mod Point
 pub mod Minidump
 pub mod SoftErrors
-pub mod Members
 pub mod Report

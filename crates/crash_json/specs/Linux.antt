@@ -1,7 +1,5 @@
 -- Linux's limits of a process, and its environment, as JSON.
 use Rattle.std.specs.Prelude.{ℕ, Bool, false, true, List, [], ◌∷◌, codes, Result, Ok, Err}
-use Rattle.std.specs.Option.{option_map}
-use Rattle.std.specs.Result.{result_ok}
 use Rattle.std.specs.Str.Lossy.{utf8_lossy}
 use Rattle.json.specs.Json.{Json, null, string}
 use Rattle.minidump.specs.declared.Error.{Error}
@@ -21,13 +19,9 @@ limit_json l = object_of (
     ∷ (codes "unit", or_null string l.unit)
     ∷ [])
 
--- the limits, as the only member of an object
-unfoldable pub limits_json : List LimitValue → Json
-limits_json limits = object_of ((codes "limits", array_of limit_json limits) ∷ [])
-
--- those of the stream, where it can be read
-abbrev pub proc_limits_json : Result (List ℕ) Error → Json
-proc_limits_json text = or_null limits_json (option_map limits_in (result_ok text))
+-- the limits of the text that has them, as the only member of an object
+unfoldable pub limits_json : List ℕ → Json
+limits_json text = object_of ((codes "limits", array_of limit_json (limits_in text)) ∷ [])
 
 -- ---- the environment
 

@@ -1,5 +1,5 @@
 -- What a minidump says that the schema has no member for, as JSON.
-use Rattle.std.specs.Prelude.{ℕ, ◌==◌, ◌++◌, Bool, List, [], ◌∷◌, codes, Option, Some, None, Result, Ok}
+use Rattle.std.specs.Prelude.{ℕ, ◌==◌, ◌++◌, Bool, List, [], ◌∷◌, codes, Option, Some, None, Ok}
 use Rattle.std.specs.Prelude.{if◌then◌else◌}
 use Rattle.std.specs.Option.{option_and_then, option_map}
 use Rattle.std.specs.Result.{result_ok}
@@ -48,27 +48,26 @@ region_json r = object_of (
 -- ---- damage
 
 -- damage by the word for what it is of, the type of a stream, the number of entries of a list, the id of
--- a thread, and the name of an error
-unfoldable pub damage_object : List ℕ → Option ℕ → Option ℕ → Option ℕ → Option (List ℕ) → Json
+-- a thread, and an error
+unfoldable pub damage_object : List ℕ → Option ℕ → Option ℕ → Option ℕ → Option Error → Json
 damage_object what number entries thread error = object_of (
     (codes "what", string what)
     ∷ (codes "number", or_null hex_string number)
     ∷ (codes "count", or_null count entries)
     ∷ (codes "thread_id", or_null count thread)
-    ∷ (codes "error", or_null string error)
+    ∷ (codes "error", or_null string (option_map name_of_error error))
     ∷ [])
 
 -- something that is there and can't be read
 abbrev pub damage_json : Damage → Json
 damage_json (Stream number error) =
-    damage_object (codes "stream") (Some number) None None (Some (name_of_error error))
+    damage_object (codes "stream") (Some number) None None (Some error)
 damage_json (Entries n) = damage_object (codes "entries") None (Some n) None None
 damage_json (Regions n) = damage_object (codes "regions") None (Some n) None None
 damage_json (Modules n) = damage_object (codes "modules") None (Some n) None None
 damage_json (Texts number n) = damage_object (codes "texts") (Some number) (Some n) None None
 damage_json (Records number n) = damage_object (codes "records") (Some number) (Some n) None None
-damage_json (Exception error) =
-    damage_object (codes "exception") None None None (Some (name_of_error error))
+damage_json (Exception error) = damage_object (codes "exception") None None None (Some error)
 damage_json (Parameters id n) = damage_object (codes "parameters") None (Some n) (Some id) None
 damage_json (ExceptionContext id) =
     damage_object (codes "exception_context") None None (Some id) None
@@ -82,11 +81,10 @@ abbrev pub unless_zero : ℕ → Option ℕ
 unless_zero n = if n == 0 then None else Some n
 
 -- the threads that requested and wrote the dump, by Breakpad's information
-abbrev pub requesting_thread : Result MinidumpBreakpadInfo Error → Option ℕ
-requesting_thread info = option_and_then (λ b. b.requesting_thread_id) (result_ok info)
-
-abbrev pub dump_thread : Result MinidumpBreakpadInfo Error → Option ℕ
-dump_thread info = option_and_then (λ b. b.dump_thread_id) (result_ok info)
+abbrev pub breakpad_members : Option MinidumpBreakpadInfo → List (List ℕ × Json)
+breakpad_members info =
+    (codes "requesting_thread_id", or_null count (option_and_then (λ b. b.requesting_thread_id) info))
+    ∷ (codes "dump_thread_id", or_null count (option_and_then (λ b. b.dump_thread_id) info)) ∷ []
 
 -- the process, with its environment where that is asked for, and who wrote the dump
 unfoldable pub process_members : Bool → CrashValue → List (List ℕ × Json)
@@ -95,13 +93,12 @@ process_members environment c =
     ∷ (codes "uptime", or_null count c.process.uptime)
     ∷ (codes "parent_process_id", or_null count c.process.parent)
     ∷ (codes "resident_size", or_null count c.process.resident)
-    ∷ (codes "requesting_thread_id", or_null count (requesting_thread c.contents.system.breakpad))
-    ∷ (codes "dump_thread_id", or_null count (dump_thread c.contents.system.breakpad))
-    ∷ (codes "command_line", or_null string c.process.command_line)
+    ∷ (breakpad_members (result_ok c.contents.system.breakpad)
+    ++ ((codes "command_line", or_null string c.process.command_line)
     ∷ (codes "environment", environment_json environment c.contents.process.environ)
     ∷ (codes "comment", or_null string c.process.comments.narrow)
     ∷ (codes "wide_comment", or_null string c.process.comments.wide)
-    ∷ []
+    ∷ []))
 
 -- what the dump holds, and what of it can't be read
 unfoldable pub file_members : CrashValue → List (List ℕ × Json)
@@ -115,22 +112,18 @@ file_members c =
 
 -- what is known of the crash, with its signature; then the kinds of handles, the assertion and
 -- Crashpad's annotations
-unfoldable pub signed_members : CrashValue → Option (List ℕ) → List (List ℕ × Json)
-signed_members c signature =
+unfoldable pub signature_members : ReportValue → List (List ℕ × Json)
+signature_members r = let c = r.crash in
     (codes "address", or_null address_json c.cause.address)
     ∷ (codes "point", or_null point_json c.point)
     ∷ (codes "exceptions", array_of exception_json c.cause.exceptions)
     ∷ (codes "exception", or_null count c.cause.counts)
-    ∷ (codes "signature", or_null string signature)
+    ∷ (codes "signature", or_null string (signature_in r))
     ∷ (codes "registers_of", or_null string (registers_of c.threads))
     ∷ (codes "handle_kinds", array_of kind_json c.process.handle_kinds)
     ∷ (codes "assertion", or_null assertion_json (result_ok c.contents.messages.assertion))
     ∷ (codes "crashpad", or_null crashpad_json (result_ok c.contents.messages.crashpad))
     ∷ []
-
--- the same by what the line is made of
-abbrev pub signature_members : ReportValue → List (List ℕ × Json)
-signature_members r = signed_members r.crash (signature_in r)
 
 -- what the schema has no member for
 abbrev pub minidump_json : ReportValue → Json

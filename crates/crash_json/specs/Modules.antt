@@ -28,7 +28,7 @@ module_members m =
 -- ---- symbols
 
 -- symbols were looked for and are missing, or memory ran out for them
-unfoldable pub are_missing : SymbolState → Bool
+abbrev pub are_missing : SymbolState → Bool
 are_missing Unwanted = false
 are_missing Missing = true
 are_missing Loaded = false
@@ -36,24 +36,25 @@ are_missing Corrupt = false
 are_missing OutOfMemory = true
 
 -- symbols can't be read, or are those of another module
-unfoldable pub are_corrupt : SymbolState → Bool
+abbrev pub are_corrupt : SymbolState → Bool
 are_corrupt Unwanted = false
 are_corrupt Missing = false
 are_corrupt Loaded = false
 are_corrupt Corrupt = true
 are_corrupt OutOfMemory = false
 
+-- whether symbols are missing, whether they are there, and whether they can't be used
+abbrev pub flag_members : Bool → Bool → Bool → List (List ℕ × Json)
+flag_members missing loaded corrupt = (codes "missing_symbols", boolean missing)
+    ∷ (codes "loaded_symbols", boolean loaded) ∷ (codes "corrupt_symbols", boolean corrupt) ∷ []
+
 -- what is known of a module's symbols
-unfoldable pub state_object : SymbolState → List (List ℕ × Json)
-state_object state =
-    (codes "missing_symbols", boolean (are_missing state))
-    ∷ (codes "loaded_symbols", boolean (are_loaded state))
-    ∷ (codes "corrupt_symbols", boolean (are_corrupt state))
-    ∷ []
+abbrev pub state_members : SymbolState → List (List ℕ × Json)
+state_members state = flag_members (are_missing state) (are_loaded state) (are_corrupt state)
 
 -- the same by the index of the module, where symbols are known
 abbrev pub symbol_members : Option SymbolizedValue → ℕ → List (List ℕ × Json)
-symbol_members (Some s) index = state_object (state_at s.states index)
+symbol_members (Some s) index = state_members (state_at s.states index)
 symbol_members None index = []
 
 -- ---- all of it

@@ -1,23 +1,20 @@
 -- Where the thread that crashed stands, as JSON.
 use Rattle.std.specs.Prelude.{ℕ, List, [], ◌∷◌, codes, filter}
-use Rattle.std.specs.Option.{option_map}
 use Rattle.json.specs.Json.{Json, string}
 use Rattle.crash.specs.declared.addresses.AddressFacts.{AddressFacts}
 use Rattle.crash.specs.declared.point.StackWord.{StackWord}
 use Rattle.crash.specs.Addresses.{is_placed}
 use Rattle.crash.specs.Point.{PointValue}
-use Rattle.crash_json.specs.Tree.{array_of, count, hex_string, object_of, or_null}
-use Rattle.crash_json.specs.Cause.{address_json, address_members}
-use Rattle.crash_json.specs.Frames.{register_members}
+use Rattle.crash_json.specs.Tree.{array_of, count, hex_string, object_of}
+use Rattle.crash_json.specs.Cause.{address_json, address_members, place_members}
+use Rattle.crash_json.specs.Frames.{named_json}
 
 -- a word of a stack, with the module that contains its value
 unfoldable pub word_json : StackWord → Json
 word_json w = object_of (
     (codes "address", hex_string w.address)
     ∷ (codes "value", hex_string w.value)
-    ∷ (codes "module", or_null count (option_map (λ p. p.0) w.module))
-    ∷ (codes "module_offset", or_null hex_string (option_map (λ p. p.1) w.module))
-    ∷ [])
+    ∷ place_members w.module)
 
 -- a register by its name, and what is known of its value as an address
 abbrev pub register_json : List ℕ × AddressFacts → Json
@@ -27,10 +24,6 @@ register_json r = object_of ((codes "name", string r.0) ∷ address_members r.1)
 abbrev pub placed_json : List (List ℕ × AddressFacts) → Json
 placed_json registers = array_of register_json (filter (λ r. is_placed r.1) registers)
 
--- flags and segments, each by its name
-abbrev pub flags_json : List (List ℕ × ℕ) → Json
-flags_json flags = object_of (register_members flags)
-
 -- where a thread stands
 unfoldable pub point_json : PointValue → Json
 point_json p = object_of (
@@ -38,6 +31,6 @@ point_json p = object_of (
     ∷ (codes "registers", placed_json p.registers)
     ∷ (codes "code", array_of count p.code)
     ∷ (codes "words", array_of word_json p.words)
-    ∷ (codes "flags", flags_json p.flags)
+    ∷ (codes "flags", named_json p.flags)
     ∷ (codes "set_flags", array_of string p.set_flags)
     ∷ [])

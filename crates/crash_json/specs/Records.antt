@@ -1,9 +1,10 @@
--- Handles, the records of macOS's crash information, and an assertion as JSON.
+-- Handles, what macOS keeps of a crash and of its boot, and an assertion as JSON.
 use Rattle.std.specs.Prelude.{ℕ, ◌==◌, List, [], ◌∷◌, codes, length, Option, Some, None}
 use Rattle.std.specs.Prelude.{if◌then◌else◌}
 use Rattle.json.specs.Json.{Json, string}
 use Rattle.minidump.specs.declared.format.MINIDUMP_ASSERTION_INFO.{MINIDUMP_ASSERTION_INFO}
 use Rattle.minidump.specs.Below.Bytes.Text16.{text_before_nul}
+use Rattle.minidump.specs.Below.Records.BootArgs.{BootArgs}
 use Rattle.minidump.specs.Below.Records.Descriptor.{handle}
 use Rattle.minidump.specs.Below.Records.Handles.{Handle}
 use Rattle.minidump.specs.Below.Records.MacCrashInfo.{MacRecords}
@@ -23,7 +24,7 @@ handle_json h = object_of (
     ∷ [])
 
 -- the handles
-abbrev pub handles_json : List Handle → Json
+unfoldable pub handles_json : List Handle → Json
 handles_json handles = array_of handle_json handles
 
 -- a kind of handles: the name of their type, and how many there are
@@ -31,7 +32,7 @@ unfoldable pub kind_json : KindValue → Json
 kind_json k = object_of (
     (codes "type_name", string k.type_name) ∷ (codes "count", count k.count) ∷ [])
 
--- ---- macOS's crash information
+-- ---- macOS
 
 -- a record of macOS's crash information
 unfoldable pub mac_record_json : MacRecord → Json
@@ -53,6 +54,10 @@ mac_crash_json all = object_of (
     ∷ (codes "records", array_of mac_record_json all.records)
     ∷ [])
 
+-- the arguments of the boot of macOS
+unfoldable pub boot_args_json : BootArgs → Json
+boot_args_json b = or_null string b.text
+
 -- ---- an assertion
 
 -- the words for the kind of an assertion, of those that Breakpad has
@@ -60,19 +65,12 @@ abbrev pub assertion_kind : ℕ → Option (List ℕ)
 assertion_kind kind = if kind == 1 then Some (codes "invalid parameter")
     else (if kind == 2 then Some (codes "pure virtual call") else None)
 
--- an assertion by the words for its kind, its expression, and the function, the file and the line
--- that it stands in
-unfoldable pub assertion_object : Option (List ℕ) → Option (List ℕ) → Option (List ℕ)
-    → Option (List ℕ) → ℕ → Json
-assertion_object kind expression function file line = object_of (
-    (codes "kind", or_null string kind)
-    ∷ (codes "expression", or_null string expression)
-    ∷ (codes "function", or_null string function)
-    ∷ (codes "file", or_null string file)
-    ∷ (codes "line", count line)
+-- an assertion: its kind, its expression, and the function, the file and the line that it stands in
+unfoldable pub assertion_json : MINIDUMP_ASSERTION_INFO → Json
+assertion_json a = object_of (
+    (codes "kind", or_null string (assertion_kind a._type))
+    ∷ (codes "expression", or_null string (text_before_nul a.expression))
+    ∷ (codes "function", or_null string (text_before_nul a.function))
+    ∷ (codes "file", or_null string (text_before_nul a.file))
+    ∷ (codes "line", count a.line)
     ∷ [])
-
--- an assertion
-abbrev pub assertion_json : MINIDUMP_ASSERTION_INFO → Json
-assertion_json a = assertion_object (assertion_kind a._type) (text_before_nul a.expression)
-    (text_before_nul a.function) (text_before_nul a.file) a.line

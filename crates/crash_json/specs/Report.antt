@@ -1,6 +1,5 @@
 -- A crash as JSON, in the schema of `minidump-stackwalk --json`: a JSON value for each crash.
 use Rattle.std.specs.Prelude.{ℕ, List, [], ◌∷◌, ◌++◌, codes, length, Option, Some, None}
-use Rattle.std.specs.Option.{option_and_then}
 use Rattle.std.specs.Result.{result_ok}
 use Rattle.json.specs.Json.{Json, string}
 use Rattle.json.specs.Print.{print}
@@ -11,10 +10,10 @@ use Rattle.crash_json.specs.Tree.{array_of, count, object_of, or_null}
 use Rattle.crash_json.specs.declared.JsonLimits.{JsonLimits}
 use Rattle.crash_json.specs.Cause.{crash_info_json}
 use Rattle.crash_json.specs.ReportValue.{ReportValue}
-use Rattle.crash_json.specs.Linux.{proc_limits_json}
+use Rattle.crash_json.specs.Linux.{limits_json}
 use Rattle.crash_json.specs.Minidump.{minidump_json}
 use Rattle.crash_json.specs.Modules.{main_module, modules_json, unloaded_json}
-use Rattle.crash_json.specs.Records.{handles_json, mac_crash_json}
+use Rattle.crash_json.specs.Records.{boot_args_json, handles_json, mac_crash_json}
 use Rattle.crash_json.specs.SoftErrors.{soft_json}
 use Rattle.crash_json.specs.System.{release_json, system_json}
 use Rattle.crash_json.specs.Threads.{crashing_json, threads_json}
@@ -24,35 +23,44 @@ abbrev pub path_members : Option (List ℕ) → List (List ℕ × Json)
 path_members None = []
 path_members (Some path) = (codes "path", string path) ∷ []
 
--- the system, the crash and the modules, and the process with the number of its threads
-unfoldable pub crash_members : ReportValue → List (List ℕ × Json)
-crash_members r = let c = r.crash in
+-- the system, the crash, and which module is the main one
+unfoldable pub system_members : CrashValue → List (List ℕ × Json)
+system_members c =
     (codes "status", string (codes "OK"))
     ∷ (codes "system_info", or_null system_json c.process.system)
     ∷ (codes "crash_info", crash_info_json c)
     ∷ (codes "main_module", or_null count (main_module c.modules.loaded))
-    ∷ (codes "modules", modules_json r.symbols c.modules.loaded)
-    ∷ (codes "unloaded_modules", array_of unloaded_json c.modules.unloaded)
+    ∷ []
+
+-- the modules that were unloaded, and the process with the number of its threads
+unfoldable pub pid_members : CrashValue → List (List ℕ × Json)
+pid_members c =
+    (codes "unloaded_modules", array_of unloaded_json c.modules.unloaded)
     ∷ (codes "pid", or_null count c.process.id)
     ∷ (codes "thread_count", count (length c.threads.threads))
     ∷ []
 
--- the thread that crashed, what single streams hold, and what the schema has no member for
-unfoldable pub record_members : ReportValue → List (List ℕ × Json)
-record_members r = let c = r.crash in let messages = c.contents.messages in
-    (codes "crashing_thread", crashing_json r)
-    ∷ (codes "lsb_release", or_null release_json c.process.release)
+-- these, with the modules between them
+abbrev pub crash_members : ReportValue → List (List ℕ × Json)
+crash_members r = system_members r.crash
+    ++ ((codes "modules", modules_json r.symbols r.crash.modules.loaded) ∷ pid_members r.crash)
+
+-- what single streams hold
+unfoldable pub stream_members : CrashValue → List (List ℕ × Json)
+stream_members c = let messages = c.contents.messages in
+    (codes "lsb_release", or_null release_json c.process.release)
     ∷ (codes "mac_crash_info", or_null mac_crash_json (result_ok messages.mac_crash_info))
-    ∷ (
-      codes "mac_boot_args",
-      or_null string (option_and_then (λ b. b.text) (result_ok messages.mac_boot_args)),
-    )
+    ∷ (codes "mac_boot_args", or_null boot_args_json (result_ok messages.mac_boot_args))
     ∷ (codes "handles", or_null handles_json (result_ok c.contents.process.handles))
     ∷ (codes "soft_errors", or_null soft_json (result_ok messages.soft_errors))
     ∷ (codes "linux_memory_map_count", or_null count c.contents.space.map_count)
-    ∷ (codes "proc_limits", proc_limits_json c.contents.process.limits)
-    ∷ (codes "minidump", minidump_json r)
+    ∷ (codes "proc_limits", or_null limits_json (result_ok c.contents.process.limits))
     ∷ []
+
+-- the thread that crashed, what single streams hold, and what the schema has no member for
+abbrev pub record_members : ReportValue → List (List ℕ × Json)
+record_members r = (codes "crashing_thread", crashing_json r)
+    ∷ (stream_members r.crash ++ ((codes "minidump", minidump_json r) ∷ []))
 
 -- the line by what it is made of
 abbrev pub line_json : ReportValue → Json

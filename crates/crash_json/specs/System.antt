@@ -12,22 +12,16 @@ abbrev pub with_build : List ℕ → Option (List ℕ) → List ℕ
 with_build version None = version
 with_build version (Some build) = version ++ (codes " " ++ build)
 
--- a system by its texts and the number of its processors
-unfoldable pub system_object : List ℕ → List ℕ → List ℕ → Option (List ℕ) → ℕ
-    → Option (List ℕ) → Json
-system_object os version cpu cpu_model processors microcode = object_of (
-    (codes "os", string os)
-    ∷ (codes "os_ver", string version)
-    ∷ (codes "cpu_arch", string cpu)
-    ∷ (codes "cpu_info", or_null string cpu_model)
-    ∷ (codes "cpu_count", count processors)
-    ∷ (codes "cpu_microcode_version", or_null string microcode)
-    ∷ [])
-
 -- a system
-abbrev pub system_json : SystemValue → Json
-system_json s = system_object (os_long_name s.os) (with_build s.version s.build) (cpu_name s.cpu)
-    s.cpu_model s.processors s.microcode
+unfoldable pub system_json : SystemValue → Json
+system_json s = object_of (
+    (codes "os", string (os_long_name s.os))
+    ∷ (codes "os_ver", string (with_build s.version s.build))
+    ∷ (codes "cpu_arch", string (cpu_name s.cpu))
+    ∷ (codes "cpu_info", or_null string s.cpu_model)
+    ∷ (codes "cpu_count", count s.processors)
+    ∷ (codes "cpu_microcode_version", or_null string s.microcode)
+    ∷ [])
 
 -- the release of a Linux system
 unfoldable pub release_json : ReleaseValue → Json

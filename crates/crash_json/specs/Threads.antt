@@ -1,9 +1,8 @@
 -- Threads as JSON.
 use Rattle.std.specs.Prelude.{ℕ, Bool, true, false, List, [], ◌∷◌, ◌++◌, codes, length, take}
-use Rattle.std.specs.Prelude.{Option, None, if◌then◌else◌}
+use Rattle.std.specs.Prelude.{Option, if◌then◌else◌}
 use Rattle.std.specs.Option.{option_and_then, option_map, option_map_or}
 use Rattle.json.specs.Json.{Json, boolean, string}
-use Rattle.stack_walk.specs.declared.end.WalkEnd.{WalkEnd}
 use Rattle.stack_walk.specs.declared.end.WalkEnd.TheVariants as ending
 use Rattle.symbol_walk.specs.declared.walk.SymbolWalkEnd.{SymbolWalkEnd}
 use Rattle.symbol_walk.specs.declared.walk.SymbolWalkEnd.TheVariants.{NoReturnRule, Walk}
@@ -12,7 +11,6 @@ use Rattle.crash.specs.declared.contexts.ContextOrigin.{ContextOrigin}
 use Rattle.crash.specs.declared.contexts.ContextOrigin.TheVariants.{OfException, OfThread}
 use Rattle.crash.specs.declared.contexts.ShortContext.{ShortContext}
 use Rattle.crash.specs.declared.stacks.StackRange.{StackRange}
-use Rattle.crash.specs.Contexts.{ContextValue}
 use Rattle.crash.specs.Threads.{ThreadValue, ThreadsValue, crashed_thread, short_context}
 use Rattle.crash_symbols.specs.Backtraces.{BacktraceValue}
 use Rattle.crash_symbols.specs.Names.{NamedFrameValue}
@@ -30,19 +28,15 @@ range_json r = object_of ((codes "base_addr", hex_string r.base) ∷ (codes "siz
 unfoldable pub short_json : ShortContext → Json
 short_json s = object_of ((codes "size", count s.size) ∷ (codes "whole", count s.whole) ∷ [])
 
--- the word for why the last frame has no caller by its frame pointer
-abbrev pub pointer_end_name : WalkEnd → List ℕ
-pointer_end_name ending.NoMemory = codes "no_memory"
-pointer_end_name ending.UnknownWidth = codes "unknown_width"
-pointer_end_name ending.NoFramePointer = codes "no_frame_pointer"
-pointer_end_name ending.ZeroFramePointer = codes "zero_frame_pointer"
-pointer_end_name ending.BelowStackPointer = codes "below_stack_pointer"
-pointer_end_name ending.NoRecord = codes "no_record"
-pointer_end_name ending.NoCode = codes "no_code"
-
 -- the word for why the last frame has no caller
 abbrev pub end_name : SymbolWalkEnd → List ℕ
-end_name (Walk end) = pointer_end_name end
+end_name (Walk ending.NoMemory) = codes "no_memory"
+end_name (Walk ending.UnknownWidth) = codes "unknown_width"
+end_name (Walk ending.NoFramePointer) = codes "no_frame_pointer"
+end_name (Walk ending.ZeroFramePointer) = codes "zero_frame_pointer"
+end_name (Walk ending.BelowStackPointer) = codes "below_stack_pointer"
+end_name (Walk ending.NoRecord) = codes "no_record"
+end_name (Walk ending.NoCode) = codes "no_code"
 end_name NoReturnRule = codes "no_return_rule"
 end_name ZeroReturnAddress = codes "zero_return_address"
 
@@ -53,6 +47,11 @@ frames_in walk = option_map_or all_frames walk []
 -- the candidates among these
 abbrev pub candidates_in : Option BacktraceValue → List NamedFrameValue
 candidates_in walk = option_map_or (λ w. w.candidates) walk []
+
+-- the index of the thread that crashed, as its first member
+abbrev pub index_members : Bool → ℕ → List (List ℕ × Json)
+index_members is_crashing number =
+    if is_crashing then (codes "threads_index", count number) ∷ [] else []
 
 -- the members of a thread but its frames, by what is shown of it
 unfoldable pub thread_members : ThreadValue → Option BacktraceValue → List (List ℕ × Json)
@@ -70,27 +69,17 @@ thread_members t walk =
     ∷ (codes "end", or_null string (option_map (λ w. end_name w.end) walk))
     ∷ []
 
--- the index of the thread that crashed, as its first member
-abbrev pub index_members : Bool → ℕ → List (List ℕ × Json)
-index_members is_crashing number =
-    if is_crashing then (codes "threads_index", count number) ∷ [] else []
-
--- the context whose registers the first frame of a thread has, in `crashing_thread` alone
-abbrev pub shown_context : Bool → ThreadValue → Option ContextValue
-shown_context is_crashing t = if is_crashing then t.context else None
-
--- a thread by its index
+-- a thread by its index, with its first frames
 abbrev pub thread_json : ReportValue → Bool → ℕ → ThreadValue → Json
 thread_json r is_crashing number t = let walk = shown_in r.symbols number t in object_of (
     index_members is_crashing number ++ (thread_members t walk
     ++ ((
       codes "frames",
-      numbered_array_of (frame_json r (shown_context is_crashing t))
-          (take r.limits.frames (frames_in walk)),
+      numbered_array_of (frame_json r is_crashing t) (take r.limits.frames (frames_in walk)),
     ) ∷ [])))
 
 -- the threads
-abbrev pub threads_json : ReportValue → Json
+unfoldable pub threads_json : ReportValue → Json
 threads_json r = numbered_array_of (thread_json r false) r.crash.threads.threads
 
 -- the thread that crashed

@@ -1,18 +1,14 @@
 -- JSON values of lists of members and of items, and their tokens.
 use Rattle.std.specs.Prelude.{◌≡◌, ℕ, List, [], ◌∷◌, ◌++◌, map, Option, Some, None, OnOk}
-use Rattle.std.specs.Prelude.{Result, decimal, string_bytes}
+use Rattle.std.specs.Prelude.{Result, decimal}
 use Rattle.std.specs.declared.alloc.AllocError.{AllocError}
-use Rattle.std.specs.Borrow.{Bor}
 use Rattle.std.specs.List.{enumerate_from, flat_map}
-use Rattle.std.specs.Option.{option_copied, option_map}
-use Rattle.json.specs.Json.{Json, null, boolean, number, string, array, object, Items, no_items, item}
+use Rattle.json.specs.Json.{Json, null, number, string, array, object, Items, no_items, item}
 use Rattle.json.specs.Json.{Members, no_members, member}
 use Rattle.json.specs.Token.{Token}
 use Rattle.json.specs.Tree.{json_tokens}
 use Rattle.json.specs.Written.{Written}
 use Rattle.minidump_bytes.specs.Piece.{hex}
-use Rattle.crash_json.specs.declared.tree.Scalar.{Scalar}
-use Rattle.crash_json.specs.declared.tree.Scalar.TheVariants.{Null, Text, Owned, Optional, Number, Count, Hex, Flag}
 
 -- ---- values
 
@@ -54,25 +50,6 @@ hex_string n = string (hex_text n)
 abbrev pub or_null : {X : Type 0} → (X → Json) → Option X → Json
 or_null json None = null
 or_null json (Some x) = json x
-
--- the value of a scalar
-abbrev pub scalar_json : Scalar → Json
-scalar_json Null = null
-scalar_json (Text s) = or_null string (option_copied s)
-scalar_json (Owned s) = string (string_bytes s.now)
-scalar_json (Optional s) = or_null string (option_map string_bytes s.now)
-scalar_json (Number n) = or_null count n
-scalar_json (Count n) = or_null count n
-scalar_json (Hex n) = or_null hex_string n
-scalar_json (Flag b) = boolean b
-
--- the member of a name and a value of a type
-abbrev pub member_of : {T : Type 0} → (T → Json) → Bor (List ℕ) × T → List ℕ × Json
-member_of json m = (m.0.now, json m.1)
-
--- the member of a name and a scalar
-abbrev pub field_of : Bor (List ℕ) × Scalar → List ℕ × Json
-field_of f = member_of scalar_json f
 
 -- ---- tokens
 

@@ -1,39 +1,40 @@
 //! The frames of a thread, the registers of the first one, and the names that symbols give.
-ghost use Rattle.std.specs.Prelude.{◌≡◌, IfOk, map, string_bytes};
+ghost use Rattle.std.specs.Prelude.{◌≡◌};
 ghost use Rattle.std.specs.Option.{option_copied, option_map};
-ghost use Rattle.minidump_bytes.specs.LinuxOsStr.{text_of};
+ghost use Rattle.json.specs.Json.{string};
 ghost use Rattle.crash.specs.Crash.{crash_of};
-ghost use Rattle.crash_symbols.specs.NameParts.{call_of, source_of};
+ghost use Rattle.crash.specs.Threads.{thread_value};
+ghost use Rattle.crash_symbols.specs.NameParts.{call_of, function_of, source_of};
 ghost use Rattle.crash_symbols.specs.Shown.{shown_frame_of, symbolized_of};
-ghost use Rattle.crash_json.specs.Tree.{Adds, Puts, field_of, object_of, or_null};
-ghost use Rattle.crash_json.specs.Members.{context_in, report_of};
-ghost use Rattle.crash_json.specs.Frames.{file_at, inline_json, inline_object, known_members};
-ghost use Rattle.crash_json.specs.Frames.{lossy, name_members, name_object, of_first};
-ghost use Rattle.crash_json.specs.Frames.{place_members, register_members, registers_json};
-ghost use Rattle.crash_json.specs.Frames.{source_file, source_line, trust_name};
+ghost use Rattle.crash_json.specs.Tree.{or_null};
+ghost use Rattle.crash_json.specs.ReportValue.{report_of};
+ghost use Rattle.crash_json.specs.Frames.{file_at, frame_members, function_members};
+ghost use Rattle.crash_json.specs.Frames.{inline_json, name_members, registers_json, shown_registers};
+ghost use Rattle.crash_json.specs.Frames.{source_members, trust_name};
 
+use crate::point::Named;
 use crate::report::Report;
-use crate::tree::{Members, NumberedJson, Put, Scalar, ToJson, put_array};
-use crash::{Crash, CrashContext, CrashFrame};
+use crate::tree::{Members, NumberedJson, Put, Text, ToJson, members};
+use crash::{Crash, CrashFrame, CrashThread};
 use crash_symbols::{FrameFunction, InlinedCall, ShownFrame, SourceLine, Symbolized};
 use json::Writer;
-use minidump_bytes::LinuxOsStr;
 use stack_walk::FrameTrust;
-use std::alloc::{AllocError, Global};
+use std::alloc::Global;
 
-/// What the frames of a thread are written by: the report, and the registers of the first frame if
-/// they are shown.
+/// What the frames of a thread are written by: the report, the thread, and whether it is written as the
+/// one that crashed.
 #[derive(Clone, Copy)]
 pub(crate) struct EachFrame<'l, 'a, 's, 'n> {
     pub(crate) report: Report<'l, 'a, 's, 'n>,
-    pub(crate) context: Option<&'l CrashContext>,
+    pub(crate) thread: &'l CrashThread,
+    pub(crate) is_crashing: bool,
 }
 
-impl<'s, 'n> NumberedJson<ShownFrame<'s, 'n>> for EachFrame<'_, '_, '_, '_> {
+impl<'s, 'n> NumberedJson<ShownFrame<'s, 'n>> for EachFrame<'_, '_, 's, 'n> {
     ghost use Rattle.crash_json.specs.Frames.{frame_json};
 
-    ghost json_at = { λ e n f. frame_json (report_of e.report) (context_in e.context) n
-        (shown_frame_of f) };
+    ghost json_at = { λ e n f. frame_json (report_of e.report) e.is_crashing
+        (thread_value e.thread.now) n (shown_frame_of f) };
 
     fn put_at(
         &self,
@@ -42,39 +43,57 @@ impl<'s, 'n> NumberedJson<ShownFrame<'s, 'n>> for EachFrame<'_, '_, '_, '_> {
         out: &mut Writer,
         alloc: Global,
     ) -> Put {
-        out.begin_object()?;
-        put_place(out, alloc, self, number, &item.frame)?;
-        put_names(out, alloc, self.report.symbols, item)?;
-        out.end_object()
+        let registers = FrameRegisters {
+            thread: self.thread,
+            is_crashing: self.is_crashing,
+            number,
+        };
+        let names = Names {
+            symbols: self.report.symbols,
+            frame: item,
+        };
+        members! {
+            "frame": number,
+            ..Placed { crash: self.report.crash, frame: &item.frame },
+            "registers": registers,
+            ..names
+        }
+        .put_object(out, alloc)
     }
 }
 
-// Adds the members of a frame but its names.
-#[rattlefmt::skip]
-#[tactic(auto, unfolding(crate::specs::Frames::place_members))]
-fn put_place(
-    out: &mut Writer,
-    alloc: Global,
-    by: &EachFrame<'_, '_, '_, '_>,
-    number: usize,
-    frame: &CrashFrame,
-) -> Put
-    ensures { Adds result out.old out.new
-        (place_members (report_of by.now.report).crash.modules.loaded (context_in by.now.context)
-        number frame.now) }
-{
-    Members(&[
-        ("frame", FrameMember::Scalar(Scalar::Count(Some(number)))),
-        ("trust", FrameMember::Scalar(Scalar::Text(Some(trust_name(frame.trust))))),
-        ("module", FrameMember::Scalar(Scalar::Text(file_at(by.report.crash, frame.module)))),
-        ("module_offset", FrameMember::Scalar(Scalar::Hex(offset_of(frame.module)))),
-        ("offset", FrameMember::Scalar(Scalar::Hex(frame.address))),
-        ("instruction", FrameMember::Scalar(Scalar::Hex(Some(frame.instruction)))),
-        ("stack_pointer", FrameMember::Scalar(Scalar::Hex(Some(frame.stack_pointer)))),
-        ("frame_pointer", FrameMember::Scalar(Scalar::Hex(frame.frame_pointer))),
-        ("registers", FrameMember::Registers(of_first(number, by.context))),
-    ])
-    .add(out, alloc)
+// Where a frame is, and how it was found.
+#[derive(Clone, Copy)]
+struct Placed<'l, 'a, 'f> {
+    crash: &'l Crash<'a>,
+    frame: &'f CrashFrame,
+}
+
+impl Members for Placed<'_, '_, '_> {
+    ghost members = { λ p. frame_members (crash_of p.crash.now).modules.loaded p.frame.now };
+
+    #[tactic(auto, unfolding(crate::specs::Frames::frame_members))]
+    fn add(&self, out: &mut Writer, alloc: Global) -> Put {
+        let frame = self.frame;
+        members! {
+            "trust": frame.trust,
+            "module": Text(file_at(self.crash, frame.module)),
+            "module_offset": offset_of(frame.module),
+            "offset": frame.address,
+            "instruction": frame.instruction,
+            "stack_pointer": frame.stack_pointer,
+            "frame_pointer": frame.frame_pointer,
+        }
+        .add(out, alloc)
+    }
+}
+
+impl ToJson for FrameTrust {
+    ghost json = { λ trust. string (trust_name trust) };
+
+    fn put(&self, out: &mut Writer, _alloc: Global) -> Put {
+        out.string(trust_name(*self))
+    }
 }
 
 // Returns the word for how a frame was found.
@@ -98,212 +117,106 @@ fn file_at<'l>(crash: &'l Crash<'_>, place: Option<(usize, u64)>) -> Option<&'l 
     Some(crash.modules.loaded.as_slice().get(index)?.file.as_str())
 }
 
-/// Returns the index of the module of a place.
-pub(crate) fn index_of(place: Option<(usize, u64)>) -> Option<usize>
-    ensures { result ≡ option_map (λ p. p.0) place }
-{
-    let (index, _) = place?;
-    Some(index)
-}
-
-/// Returns the offset of a place in its module.
-pub(crate) fn offset_of(place: Option<(usize, u64)>) -> Option<u64>
+// Returns the offset of a place in its module.
+fn offset_of(place: Option<(usize, u64)>) -> Option<u64>
     ensures { result ≡ option_map (λ p. p.1) place }
 {
     let (_, offset) = place?;
     Some(offset)
 }
 
-// Returns the registers for the first frame, and for any other none.
-fn of_first(number: usize, context: Option<&CrashContext>) -> Option<&CrashContext>
-    ensures { context_in result ≡ of_first number (context_in context.entry) }
-{
-    if number == 0 { context } else { None }
-}
-
-// The value of a member of a frame.
+// The registers of a thread, for the first frame of the one that crashed.
 #[derive(Clone, Copy)]
-pub(crate) enum FrameMember<'l, 'n> {
-    Scalar(Scalar<'l>),
-    Registers(Option<&'l CrashContext>),
-    Inlines(&'l [InlinedCall<'n>]),
+struct FrameRegisters<'l> {
+    thread: &'l CrashThread,
+    is_crashing: bool,
+    number: usize,
 }
 
-impl ToJson for FrameMember<'_, '_> {
-    ghost use Rattle.crash_json.specs.Members.{frame_member};
+impl ToJson for FrameRegisters<'_> {
+    ghost json = { λ r. or_null registers_json
+        (shown_registers r.is_crashing r.number (thread_value r.thread.now)) };
 
-    ghost json = { frame_member };
-
-    #[tactic(auto, using(crate::proofs::Tokens::views))]
     fn put(&self, out: &mut Writer, alloc: Global) -> Put {
-        match self {
-            FrameMember::Scalar(scalar) => scalar.put(out, alloc),
-            FrameMember::Registers(context) => put_registers_or_null(out, alloc, *context),
-            FrameMember::Inlines(calls) => put_array(out, alloc, calls),
+        match &self.thread.context {
+            Some(context) if self.is_crashing && self.number == 0 => {
+                Named(&context.registers).put(out, alloc)
+            }
+            _ => out.null(),
         }
     }
 }
 
-// Puts the registers of a context, or `null`.
-fn put_registers_or_null(out: &mut Writer, alloc: Global, context: Option<&CrashContext>) -> Put
-    ensures { Puts result out.old out.new (or_null registers_json (context_in context.entry)) }
-{
-    match context {
-        Some(context) => put_named(out, alloc, context.registers.as_slice()),
-        None => out.null(),
-    }
-}
-
-/// Puts registers or flags, each by its name.
-pub(crate) fn put_named(out: &mut Writer, alloc: Global, named: &[(&'static str, u64)]) -> Put
-    ensures { Puts result out.old out.new
-        (object_of (register_members (map (λ r. (r.0.now, r.1)) named.now))) }
-{
-    let fields = register_fields(alloc, named)?;
-    Members(fields.as_slice()).put(out, alloc)
-}
-
-// Returns registers as members.
-fn register_fields(
-    alloc: Global,
-    registers: &[(&'static str, u64)],
-) -> Result<Vec<(&'static str, Scalar<'static>)>, AllocError>
-    ensures { IfOk result (λ fields. map field_of fields.items
-        ≡ register_members (map (λ r. (r.0.now, r.1)) registers.now)) }
-{
-    let mut fields = Vec::new(alloc);
-    for (name, value) in registers {
-        fields.push((*name, Scalar::Hex(Some(*value))))?;
-    }
-    Ok(fields)
-}
-
 // ---- names
 
-// Adds the members of a frame's names, if symbols are known.
-fn put_names(
-    out: &mut Writer,
-    alloc: Global,
-    symbols: Option<&Symbolized<'_, '_>>,
-    shown: &ShownFrame<'_, '_>,
-) -> Put
-    ensures { Adds result out.old out.new (name_members
-        (option_map symbolized_of (option_copied symbols.entry)) (shown_frame_of shown.now)) }
-{
-    match symbols {
-        Some(_) => put_known_names(out, alloc, shown),
-        None => Members::<Scalar<'_>>(&[]).add(out, alloc),
+// The names of a frame, if symbols are known.
+#[derive(Clone, Copy)]
+struct Names<'l, 'f, 's, 'n> {
+    symbols: Option<&'l Symbolized<'s, 'n>>,
+    frame: &'f ShownFrame<'s, 'n>,
+}
+
+impl Members for Names<'_, '_, '_, '_> {
+    ghost members = { λ n. name_members (option_map symbolized_of (option_copied n.symbols))
+        (shown_frame_of n.frame.now) };
+
+    #[tactic(auto, unfolding(crate::specs::Tree::member_list_tokens), using(crate::proofs::Tokens::views))]
+    fn add(&self, out: &mut Writer, alloc: Global) -> Put {
+        let frame = self.frame;
+        match self.symbols {
+            Some(_) => members! {
+                ..Function(frame.function),
+                ..Source(frame.line),
+                "inlines": frame.inlines,
+                "missing_symbols": frame.function.is_none(),
+            }
+            .add(out, alloc),
+            None => Ok(()),
+        }
     }
 }
 
-// Adds the members of the names that symbols give.
-fn put_known_names(out: &mut Writer, alloc: Global, shown: &ShownFrame<'_, '_>) -> Put
-    ensures { Adds result out.old out.new (known_members (shown_frame_of shown.now)) }
-{
-    let function = lossy(alloc, name_of(shown.function))?;
-    let file = lossy(alloc, source_file(shown.line))?;
-    put_name_members(
-        out,
-        alloc,
-        &function,
-        function_offset(shown.function),
-        &file,
-        source_line(shown.line),
-        shown.inlines,
-        shown.function.is_none(),
-    )
-}
+// A function and the offset of a frame in it, or none.
+#[derive(Clone, Copy)]
+struct Function<'n>(Option<FrameFunction<'n>>);
 
-#[tactic(auto, unfolding(crate::specs::Frames::name_object))]
-fn put_name_members<'t>(
-    out: &mut Writer,
-    alloc: Global,
-    function: &'t Option<String>,
-    offset: Option<u64>,
-    file: &'t Option<String>,
-    line: Option<u64>,
-    inlines: &'t [InlinedCall<'_>],
-    is_missing: bool,
-) -> Put
-    ensures { Adds result out.old out.new (name_object (option_map string_bytes function.now) offset
-        (option_map string_bytes file.now) line (map call_of inlines.now) is_missing) }
-{
-    let is_missing = Scalar::Flag(is_missing);
-    Members(&[
-        ("function", FrameMember::Scalar(Scalar::Optional(function))),
-        ("function_offset", FrameMember::Scalar(Scalar::Hex(offset))),
-        ("file", FrameMember::Scalar(Scalar::Optional(file))),
-        ("line", FrameMember::Scalar(Scalar::Number(line))),
-        ("inlines", FrameMember::Inlines(inlines)),
-        ("missing_symbols", FrameMember::Scalar(is_missing)),
-    ])
-    .add(out, alloc)
-}
+impl Members for Function<'_> {
+    ghost members = { λ f. function_members (option_map function_of f.0) };
 
-// Makes a text of one that Linux wrote.
-fn lossy(alloc: Global, text: Option<LinuxOsStr<'_>>) -> Result<Option<String>, AllocError>
-    ensures { IfOk result (λ copy. option_map string_bytes copy
-        ≡ lossy (option_map text_of text.entry)) }
-{
-    match text {
-        Some(text) => Ok(Some(text.to_string_lossy(alloc)?)),
-        None => Ok(None),
+    fn add(&self, out: &mut Writer, alloc: Global) -> Put {
+        match self.0 {
+            Some(function) => members! {
+                "function": function.name,
+                "function_offset": function.offset,
+            }
+            .add(out, alloc),
+            None => members! { "function": (), "function_offset": (), }.add(out, alloc),
+        }
     }
 }
 
-// Returns the name of a function.
-fn name_of<'n>(function: Option<FrameFunction<'n>>) -> Option<LinuxOsStr<'n>>
-    ensures { option_map text_of result ≡ option_map (λ f. text_of f.name) function.entry }
-{
-    Some(function?.name)
-}
+// A source line, or none.
+#[derive(Clone, Copy)]
+struct Source<'n>(Option<SourceLine<'n>>);
 
-// Returns the offset of a frame in its function.
-fn function_offset(function: Option<FrameFunction<'_>>) -> Option<u64>
-    ensures { result ≡ option_map (λ f. f.offset) function.entry }
-{
-    Some(function?.offset)
-}
+impl Members for Source<'_> {
+    ghost members = { λ s. source_members (option_map source_of s.0) };
 
-// Returns the name of the file of a source line.
-fn source_file<'n>(source: Option<SourceLine<'n>>) -> Option<LinuxOsStr<'n>>
-    ensures { option_map text_of result ≡ source_file (option_map source_of source.entry) }
-{
-    source?.file
-}
-
-// Returns the number of a source line.
-fn source_line(source: Option<SourceLine<'_>>) -> Option<u64>
-    ensures { result ≡ source_line (option_map source_of source.entry) }
-{
-    Some(source?.line as u64)
+    fn add(&self, out: &mut Writer, alloc: Global) -> Put {
+        match self.0 {
+            Some(source) => {
+                members! { "file": source.file, "line": source.line, }.add(out, alloc)
+            }
+            None => members! { "file": (), "line": (), }.add(out, alloc),
+        }
+    }
 }
 
 impl ToJson for InlinedCall<'_> {
     ghost json = { λ c. inline_json (call_of c) };
 
+    #[tactic(auto, unfolding(crate::specs::Frames::inline_json))]
     fn put(&self, out: &mut Writer, alloc: Global) -> Put {
-        let function = lossy(alloc, self.function)?;
-        let file = lossy(alloc, source_file(self.source))?;
-        put_call(out, alloc, &function, &file, source_line(self.source))
+        members! { "function": self.function, ..Source(self.source) }.put_object(out, alloc)
     }
-}
-
-#[tactic(auto, unfolding(crate::specs::Frames::inline_object))]
-fn put_call<'t>(
-    out: &mut Writer,
-    alloc: Global,
-    function: &'t Option<String>,
-    file: &'t Option<String>,
-    line: Option<u64>,
-) -> Put
-    ensures { Puts result out.old out.new (inline_object (option_map string_bytes function.now)
-        (option_map string_bytes file.now) line) }
-{
-    Members(&[
-        ("function", Scalar::Optional(function)),
-        ("file", Scalar::Optional(file)),
-        ("line", Scalar::Number(line)),
-    ])
-    .put(out, alloc)
 }

@@ -1,30 +1,20 @@
 //! The modules, loaded and unloaded.
 ghost use Rattle.std.specs.Prelude.{◌≡◌, map};
 ghost use Rattle.std.specs.Option.{option_copied, option_map};
+ghost use Rattle.json.specs.Json.{string};
 ghost use Rattle.crash.specs.Modules.{loaded_of, unloaded_module_of};
 ghost use Rattle.crash_symbols.specs.Shown.{symbolized_of};
-ghost use Rattle.crash_symbols.specs.Symbols.{are_loaded};
-ghost use Rattle.crash_json.specs.Tree.{Adds, Puts};
-ghost use Rattle.crash_json.specs.Members.{report_of};
-ghost use Rattle.crash_json.specs.Modules.{are_corrupt, are_missing, main_module, module_members};
-ghost use Rattle.crash_json.specs.Modules.{modules_json, part_name, state_object, symbol_members};
-ghost use Rattle.crash_json.specs.Modules.{unloaded_json, unreadable_json};
+ghost use Rattle.crash_json.specs.Tree.{Adds};
+ghost use Rattle.crash_json.specs.ReportValue.{report_of};
+ghost use Rattle.crash_json.specs.Modules.{flag_members, main_module, module_members, modules_json};
+ghost use Rattle.crash_json.specs.Modules.{part_name, state_members, symbol_members, unloaded_json, unreadable_json};
 
 use crate::report::Report;
-use crate::tree::{Members, NumberedJson, Put, Scalar, ToJson, put_numbered_array};
+use crate::tree::{Members, Numbered, NumberedJson, Optional, Put, ToJson, members};
 use crash::{CrashModule, ModulePart, UnloadedModule, UnreadableModule};
 use crash_symbols::{SymbolState, Symbolized};
 use json::Writer;
 use std::alloc::Global;
-
-/// Puts the modules, with what is known of the symbols of each.
-#[tactic(auto, unfolding(crate::specs::Modules::modules_json), using(crate::proofs::NumberedLemmas::numbered_values))]
-pub(crate) fn put_modules(out: &mut Writer, alloc: Global, report: &Report<'_, '_, '_, '_>) -> Put
-    ensures { Puts result out.old out.new (modules_json (report_of report.now).symbols
-        (report_of report.now).crash.modules.loaded) }
-{
-    put_numbered_array(out, alloc, report.crash.modules.loaded.as_slice(), report)
-}
 
 /// Returns the index of the main module, which is the first.
 pub(crate) fn main_module(modules: &[CrashModule]) -> Option<usize>
@@ -36,87 +26,97 @@ pub(crate) fn main_module(modules: &[CrashModule]) -> Option<usize>
     }
 }
 
+/// The modules, with what is known of the symbols of each.
+#[derive(Clone, Copy)]
+pub(crate) struct Modules<'l, 'a, 's, 'n>(pub(crate) Report<'l, 'a, 's, 'n>);
+
+impl ToJson for Modules<'_, '_, '_, '_> {
+    ghost json = { λ m. modules_json (report_of m.0).symbols
+        (report_of m.0).crash.modules.loaded };
+
+    #[tactic(auto, unfolding(crate::specs::Modules::modules_json), using(crate::proofs::Tokens::numbered_values))]
+    fn put(&self, out: &mut Writer, alloc: Global) -> Put {
+        Numbered(&self.0.crash.modules.loaded, &self.0).put(out, alloc)
+    }
+}
+
 impl NumberedJson<CrashModule> for Report<'_, '_, '_, '_> {
     ghost use Rattle.crash_json.specs.Modules.{module_json};
 
     ghost json_at = { λ r n m. module_json (report_of r).symbols n (loaded_of m) };
 
     fn put_at(&self, number: usize, item: &CrashModule, out: &mut Writer, alloc: Global) -> Put {
-        out.begin_object()?;
-        put_module(out, alloc, item)?;
-        put_symbols(out, alloc, self.symbols, number)?;
-        out.end_object()
+        let symbols = ModuleSymbols {
+            symbols: self.symbols,
+            index: number,
+        };
+        (item, symbols).put_object(out, alloc)
     }
 }
 
-// Adds the members of a module but what is known of its symbols.
-#[tactic(auto, unfolding(crate::specs::Modules::module_members))]
-fn put_module(out: &mut Writer, alloc: Global, loaded: &CrashModule) -> Put
-    ensures { Adds result out.old out.new (module_members (loaded_of loaded.now)) }
-{
-    Members(&[
-        ("base_addr", Scalar::Hex(Some(loaded.base))),
-        ("end_addr", Scalar::Hex(loaded.end)),
-        ("filename", Scalar::Owned(&loaded.file)),
-        ("path", Scalar::Owned(&loaded.path)),
-        ("code_id", Scalar::Optional(&loaded.code_id)),
-        ("debug_file", Scalar::Optional(&loaded.debug_file)),
-        ("debug_id", Scalar::Optional(&loaded.debug_id)),
-        ("version", Scalar::Optional(&loaded.version)),
-    ])
-    .add(out, alloc)
+impl Members for CrashModule {
+    ghost members = { λ m. module_members (loaded_of m) };
+
+    #[tactic(auto, unfolding(crate::specs::Modules::module_members))]
+    fn add(&self, out: &mut Writer, alloc: Global) -> Put {
+        members! {
+            "base_addr": self.base,
+            "end_addr": self.end,
+            "filename": &self.file,
+            "path": &self.path,
+            "code_id": Optional(&self.code_id),
+            "debug_file": Optional(&self.debug_file),
+            "debug_id": Optional(&self.debug_id),
+            "version": Optional(&self.version),
+        }
+        .add(out, alloc)
+    }
 }
 
-// Adds what is known of the symbols of the module of an index, if symbols are known.
-fn put_symbols(
-    out: &mut Writer,
-    alloc: Global,
-    symbols: Option<&Symbolized<'_, '_>>,
+// The symbols of the module of an index, if symbols are known.
+#[derive(Clone, Copy)]
+struct ModuleSymbols<'l, 's, 'n> {
+    symbols: Option<&'l Symbolized<'s, 'n>>,
     index: usize,
-) -> Put
-    ensures { Adds result out.old out.new (symbol_members
-        (option_map symbolized_of (option_copied symbols.entry)) index) }
-{
-    match symbols {
-        Some(known) => put_state(out, alloc, known.symbols.state(index)),
-        None => Members::<Scalar<'_>>(&[]).add(out, alloc),
+}
+
+impl Members for ModuleSymbols<'_, '_, '_> {
+    ghost members = { λ m. symbol_members (option_map symbolized_of (option_copied m.symbols)) m.index };
+
+    #[tactic(auto, unfolding(crate::specs::Tree::member_list_tokens))]
+    fn add(&self, out: &mut Writer, alloc: Global) -> Put {
+        match self.symbols {
+            Some(known) => known.symbols.state(self.index).add(out, alloc),
+            None => Ok(()),
+        }
     }
 }
 
-#[tactic(auto, unfolding(crate::specs::Modules::state_object))]
-fn put_state(out: &mut Writer, alloc: Global, state: SymbolState) -> Put
-    ensures { Adds result out.old out.new (state_object state) }
+impl Members for SymbolState {
+    ghost members = { state_members };
+
+    #[tactic(auto, unfolding(crash_symbols::specs::Symbols::are_loaded))]
+    fn add(&self, out: &mut Writer, alloc: Global) -> Put {
+        match *self {
+            SymbolState::Unwanted => add_flags(out, alloc, false, false, false),
+            SymbolState::Missing => add_flags(out, alloc, true, false, false),
+            SymbolState::Loaded => add_flags(out, alloc, false, true, false),
+            SymbolState::Corrupt => add_flags(out, alloc, false, false, true),
+            SymbolState::OutOfMemory => add_flags(out, alloc, true, false, false),
+        }
+    }
+}
+
+// Adds whether symbols are missing, whether they are there, and whether they can't be used.
+fn add_flags(out: &mut Writer, alloc: Global, missing: bool, loaded: bool, corrupt: bool) -> Put
+    ensures { Adds result out.old out.new (flag_members missing loaded corrupt) }
 {
-    Members(&[
-        ("missing_symbols", Scalar::Flag(are_missing(state))),
-        ("loaded_symbols", Scalar::Flag(are_loaded(state))),
-        ("corrupt_symbols", Scalar::Flag(are_corrupt(state))),
-    ])
+    members! {
+        "missing_symbols": missing,
+        "loaded_symbols": loaded,
+        "corrupt_symbols": corrupt,
+    }
     .add(out, alloc)
-}
-
-// Tells whether symbols were looked for and are missing, or memory ran out for them.
-#[tactic(auto, unfolding(crate::specs::Modules::are_missing))]
-fn are_missing(state: SymbolState) -> bool
-    ensures { result ≡ are_missing state }
-{
-    matches!(state, SymbolState::Missing | SymbolState::OutOfMemory)
-}
-
-// Tells whether symbols are there.
-#[tactic(auto, unfolding(crash_symbols::specs::Symbols::are_loaded))]
-fn are_loaded(state: SymbolState) -> bool
-    ensures { result ≡ are_loaded state }
-{
-    matches!(state, SymbolState::Loaded)
-}
-
-// Tells whether symbols can't be read, or are those of another module.
-#[tactic(auto, unfolding(crate::specs::Modules::are_corrupt))]
-fn are_corrupt(state: SymbolState) -> bool
-    ensures { result ≡ are_corrupt state }
-{
-    matches!(state, SymbolState::Corrupt)
 }
 
 impl ToJson for UnloadedModule {
@@ -124,14 +124,14 @@ impl ToJson for UnloadedModule {
 
     #[tactic(auto, unfolding(crate::specs::Modules::unloaded_json))]
     fn put(&self, out: &mut Writer, alloc: Global) -> Put {
-        Members(&[
-            ("base_addr", Scalar::Hex(Some(self.base))),
-            ("end_addr", Scalar::Hex(self.end)),
-            ("filename", Scalar::Owned(&self.file)),
-            ("path", Scalar::Owned(&self.path)),
-            ("code_id", Scalar::Optional(&self.code_id)),
-        ])
-        .put(out, alloc)
+        members! {
+            "base_addr": self.base,
+            "end_addr": self.end,
+            "filename": &self.file,
+            "path": &self.path,
+            "code_id": Optional(&self.code_id),
+        }
+        .put_object(out, alloc)
     }
 }
 
@@ -140,22 +140,23 @@ impl ToJson for UnreadableModule {
 
     #[tactic(auto, unfolding(crate::specs::Modules::unreadable_json))]
     fn put(&self, out: &mut Writer, alloc: Global) -> Put {
-        Members(&[
-            ("index", Scalar::Count(Some(self.index))),
-            ("base_addr", Scalar::Hex(Some(self.base))),
-            ("size", Scalar::Number(Some(self.size as u64))),
-            ("part", Scalar::Text(Some(part_name(self.part)))),
-        ])
-        .put(out, alloc)
+        members! {
+            "index": self.index,
+            "base_addr": self.base,
+            "size": self.size,
+            "part": self.part,
+        }
+        .put_object(out, alloc)
     }
 }
 
-// Returns the word for a part of a module's entry.
-fn part_name(part: ModulePart) -> &'static str
-    ensures { result.now ≡ part_name part }
-{
-    match part {
-        ModulePart::Name => "name",
-        ModulePart::CodeView => "code_view",
+impl ToJson for ModulePart {
+    ghost json = { λ part. string (part_name part) };
+
+    fn put(&self, out: &mut Writer, alloc: Global) -> Put {
+        match *self {
+            ModulePart::Name => "name".put(out, alloc),
+            ModulePart::CodeView => "code_view".put(out, alloc),
+        }
     }
 }

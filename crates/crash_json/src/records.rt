@@ -1,32 +1,33 @@
-//! Handles and their kinds, the records of macOS's crash information, and an assertion.
-ghost use Rattle.std.specs.Prelude.{◌≡◌, length, map, string_bytes};
-ghost use Rattle.std.specs.Option.{option_copied, option_map};
+//! Handles and their kinds, what macOS keeps of a crash and of its boot, and an assertion.
+ghost use Rattle.json.specs.Json.{string};
 ghost use Rattle.minidump.specs.Below.Records.Record.{mac_record_of};
 ghost use Rattle.minidump.specs.Promise.{assertion_stream, handle_data_stream};
-ghost use Rattle.minidump.specs.Promise.{mac_crash_info_stream};
+ghost use Rattle.minidump.specs.Promise.{mac_bootargs_stream, mac_crash_info_stream};
 ghost use Rattle.minidump.specs.Below.Records.Handles.{handle_of};
 ghost use Rattle.crash.specs.HandleKinds.{kind_of};
-ghost use Rattle.crash_json.specs.Tree.{Puts};
-ghost use Rattle.crash_json.specs.Records.{assertion_json, assertion_kind, assertion_object};
-ghost use Rattle.crash_json.specs.Records.{handle_json, handles_json, kind_json, mac_crash_json};
+ghost use Rattle.crash_json.specs.Tree.{or_null};
+ghost use Rattle.crash_json.specs.Records.{assertion_json, assertion_kind, boot_args_json, handle_json};
+ghost use Rattle.crash_json.specs.Records.{handles_json, kind_json, mac_crash_json};
 ghost use Rattle.crash_json.specs.Records.{mac_record_json};
 
-use crate::tree::{Members, Put, Scalar, ToJson, put_array};
+use crate::tree::{Length, Members, Optional, Put, Text, ToJson, members};
 use crash::HandleKind;
 use json::Writer;
 use minidump::own_streams::text_before_nul;
 use minidump::{
-    MinidumpAssertion, MinidumpHandleDataStream, MinidumpHandleDescriptor, MinidumpMacCrashInfo,
-    RawMacCrashInfo,
+    MinidumpAssertion, MinidumpHandleDataStream, MinidumpHandleDescriptor, MinidumpMacBootargs,
+    MinidumpMacCrashInfo, RawMacCrashInfo,
 };
 use std::alloc::Global;
+
+// ---- handles
 
 impl ToJson for MinidumpHandleDataStream {
     ghost json = { λ handles. handles_json (handle_data_stream.value handles) };
 
-    #[tactic(auto, using(crate::proofs::Tokens::views))]
+    #[tactic(auto, unfolding(crate::specs::Records::handles_json), using(crate::proofs::Tokens::views))]
     fn put(&self, out: &mut Writer, alloc: Global) -> Put {
-        put_array(out, alloc, self.handles.as_slice())
+        self.handles.put(out, alloc)
     }
 }
 
@@ -35,12 +36,12 @@ impl ToJson for MinidumpHandleDescriptor {
 
     #[tactic(auto, unfolding(crate::specs::Records::handle_json))]
     fn put(&self, out: &mut Writer, alloc: Global) -> Put {
-        Members(&[
-            ("handle", Scalar::Hex(self.raw.handle().copied())),
-            ("type_name", Scalar::Optional(&self.type_name)),
-            ("object_name", Scalar::Optional(&self.object_name)),
-        ])
-        .put(out, alloc)
+        members! {
+            "handle": self.raw.handle().copied(),
+            "type_name": Optional(&self.type_name),
+            "object_name": Optional(&self.object_name),
+        }
+        .put_object(out, alloc)
     }
 }
 
@@ -49,54 +50,18 @@ impl ToJson for HandleKind {
 
     #[tactic(auto, unfolding(crate::specs::Records::kind_json))]
     fn put(&self, out: &mut Writer, alloc: Global) -> Put {
-        Members(&[
-            ("type_name", Scalar::Owned(&self.type_name)),
-            ("count", Scalar::Count(Some(self.count))),
-        ])
-        .put(out, alloc)
+        members! { "type_name": &self.type_name, "count": self.count, }.put_object(out, alloc)
     }
 }
+
+// ---- macOS
 
 impl ToJson for MinidumpMacCrashInfo {
     ghost json = { λ records. mac_crash_json (mac_crash_info_stream.value records) };
 
     #[tactic(auto, unfolding(crate::specs::Records::mac_crash_json))]
     fn put(&self, out: &mut Writer, alloc: Global) -> Put {
-        let records = self.raw.as_slice();
-        let count = Scalar::Count(Some(how_many(records)));
-        Members(&[
-            ("num_records", MacMember::Scalar(count)),
-            ("records", MacMember::Records(records)),
-        ])
-        .put(out, alloc)
-    }
-}
-
-// Returns how many records there are.
-fn how_many(records: &[RawMacCrashInfo]) -> usize
-    ensures { result ≡ length (map mac_record_of records.now) }
-{
-    records.len()
-}
-
-// The value of a member of the crash information of macOS.
-#[derive(Clone, Copy)]
-pub(crate) enum MacMember<'l> {
-    Scalar(Scalar<'l>),
-    Records(&'l [RawMacCrashInfo]),
-}
-
-impl ToJson for MacMember<'_> {
-    ghost use Rattle.crash_json.specs.Members.{mac_member};
-
-    ghost json = { mac_member };
-
-    #[tactic(auto, using(crate::proofs::Tokens::views))]
-    fn put(&self, out: &mut Writer, alloc: Global) -> Put {
-        match self {
-            MacMember::Scalar(scalar) => scalar.put(out, alloc),
-            MacMember::Records(records) => put_array(out, alloc, records),
-        }
+        members! { "num_records": Length(&self.raw), "records": &self.raw, }.put_object(out, alloc)
     }
 }
 
@@ -105,70 +70,63 @@ impl ToJson for RawMacCrashInfo {
 
     #[tactic(auto, unfolding(crate::specs::Records::mac_record_json))]
     fn put(&self, out: &mut Writer, alloc: Global) -> Put {
-        Members(&[
-            ("thread", Scalar::Hex(self.thread().copied())),
-            ("dialog_mode", Scalar::Hex(self.dialog_mode().copied())),
-            ("abort_cause", Scalar::Hex(self.abort_cause().copied())),
-            ("module", Scalar::Text(self.module_path())),
-            ("message", Scalar::Text(self.message())),
-            ("signature_string", Scalar::Text(self.signature_string())),
-            ("backtrace", Scalar::Text(self.backtrace())),
-            ("message2", Scalar::Text(self.message2())),
-        ])
-        .put(out, alloc)
+        members! {
+            "thread": self.thread().copied(),
+            "dialog_mode": self.dialog_mode().copied(),
+            "abort_cause": self.abort_cause().copied(),
+            "module": Text(self.module_path()),
+            "message": Text(self.message()),
+            "signature_string": Text(self.signature_string()),
+            "backtrace": Text(self.backtrace()),
+            "message2": Text(self.message2()),
+        }
+        .put_object(out, alloc)
     }
 }
+
+// The arguments of the boot.
+impl ToJson for MinidumpMacBootargs {
+    ghost json = { λ b. boot_args_json (mac_bootargs_stream.value b) };
+
+    #[tactic(auto, unfolding(crate::specs::Records::boot_args_json))]
+    fn put(&self, out: &mut Writer, alloc: Global) -> Put {
+        Optional(&self.bootargs).put(out, alloc)
+    }
+}
+
+// ---- an assertion
 
 impl ToJson for MinidumpAssertion {
     ghost json = { λ a. assertion_json (assertion_stream.value a) };
 
+    #[tactic(auto, unfolding(crate::specs::Records::assertion_json))]
     fn put(&self, out: &mut Writer, alloc: Global) -> Put {
         let expression = text_before_nul(alloc, &self.raw.expression)?;
         let function = text_before_nul(alloc, &self.raw.function)?;
         let file = text_before_nul(alloc, &self.raw.file)?;
-        put_assertion(
-            out,
-            alloc,
-            assertion_kind(self.raw._type),
-            &expression,
-            &function,
-            &file,
-            self.raw.line,
-        )
+        members! {
+            "kind": AssertionKind(self.raw._type),
+            "expression": Optional(&expression),
+            "function": Optional(&function),
+            "file": Optional(&file),
+            "line": self.raw.line,
+        }
+        .put_object(out, alloc)
     }
 }
 
-// Returns the words for the kind of an assertion, of those that Breakpad has.
-fn assertion_kind(kind: u32) -> Option<&'static str>
-    ensures { option_copied result ≡ assertion_kind kind }
-{
-    match kind {
-        1 => Some("invalid parameter"),
-        2 => Some("pure virtual call"),
-        _ => None,
-    }
-}
+// The kind of an assertion, of those that Breakpad has.
+#[derive(Clone, Copy)]
+struct AssertionKind(u32);
 
-#[tactic(auto, unfolding(crate::specs::Records::assertion_object))]
-fn put_assertion<'t>(
-    out: &mut Writer,
-    alloc: Global,
-    kind: Option<&'t str>,
-    expression: &'t Option<String>,
-    function: &'t Option<String>,
-    file: &'t Option<String>,
-    line: u32,
-) -> Put
-    ensures { Puts result out.old out.new (assertion_object (option_copied kind.entry)
-        (option_map string_bytes expression.now) (option_map string_bytes function.now)
-        (option_map string_bytes file.now) line) }
-{
-    Members(&[
-        ("kind", Scalar::Text(kind)),
-        ("expression", Scalar::Optional(expression)),
-        ("function", Scalar::Optional(function)),
-        ("file", Scalar::Optional(file)),
-        ("line", Scalar::Number(Some(line as u64))),
-    ])
-    .put(out, alloc)
+impl ToJson for AssertionKind {
+    ghost json = { λ kind. or_null string (assertion_kind kind.0) };
+
+    fn put(&self, out: &mut Writer, alloc: Global) -> Put {
+        match self.0 {
+            1 => "invalid parameter".put(out, alloc),
+            2 => "pure virtual call".put(out, alloc),
+            _ => out.null(),
+        }
+    }
 }

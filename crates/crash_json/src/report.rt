@@ -1,29 +1,19 @@
 //! The line of a crash.
-ghost use Rattle.std.specs.Prelude.{◌≡◌, length, map};
-ghost use Rattle.std.specs.Option.{option_and_then, option_copied};
-ghost use Rattle.std.specs.Result.{result_ok};
-ghost use Rattle.minidump.specs.Below.Contexts.Context.{map_ok};
-ghost use Rattle.minidump.specs.Promise.{mac_bootargs_stream, soft_errors_stream};
-ghost use Rattle.crash.specs.Threads.{thread_value};
-ghost use Rattle.crash_json.specs.Tree.{Adds};
-ghost use Rattle.crash_json.specs.Members.{report_of};
-ghost use Rattle.crash_json.specs.Report.{crash_members, path_members, record_members};
+ghost use Rattle.std.specs.Option.{option_copied};
+ghost use Rattle.crash.specs.Crash.{crash_of};
+ghost use Rattle.crash_json.specs.ReportValue.{report_of};
+ghost use Rattle.crash_json.specs.Report.{crash_members, path_members, pid_members, record_members};
+ghost use Rattle.crash_json.specs.Report.{stream_members, system_members};
 
 use crate::JsonLimits;
-use crate::cause::{put_crash_info, widened};
-use crate::dump::put_minidump;
-use crate::linux::put_proc_limits;
-use crate::modules::{main_module, put_modules};
-use crate::soft_errors::put_soft_errors;
-use crate::threads::{EachThread, put_crashing};
-use crate::tree::{
-    Members, Put, Scalar, ToJson, put_array, put_found, put_numbered_array, put_or_null,
-};
-use crash::{Crash, CrashThread};
+use crate::cause::CrashInfo;
+use crate::dump::Minidump;
+use crate::modules::{Modules, main_module};
+use crate::threads::{Crashing, Threads};
+use crate::tree::{Found, Length, Members, Put, ToJson, members};
+use crash::Crash;
 use crash_symbols::Symbolized;
 use json::Writer;
-use minidump::{Error, MinidumpMacBootargs, MinidumpSoftErrors};
-use minidump_bytes::as_text;
 use std::alloc::Global;
 
 /// A crash, with the path of its file if it has one, how much is written, and the symbols where they
@@ -42,150 +32,120 @@ impl ToJson for Report<'_, '_, '_, '_> {
     ghost json = { λ r. line_json (report_of r) };
 
     fn put(&self, out: &mut Writer, alloc: Global) -> Put {
-        let report = *self;
-        let threads = report.crash.threads.threads.as_slice();
-        let each = EachThread {
-            report,
-            is_crashing: false,
-        };
         out.begin_object()?;
-        put_path(out, alloc, report.path)?;
-        put_crash(out, alloc, report)?;
+        Path(self.path).add(out, alloc)?;
+        CrashPart(*self).add(out, alloc)?;
         out.key("threads")?;
-        put_numbered_array(out, alloc, threads, &each)?;
-        put_records(out, alloc, report)?;
+        Threads(*self).put(out, alloc)?;
+        RecordPart(*self).add(out, alloc)?;
         out.end_object()
     }
 }
 
-// Adds the path of the file, if it has one.
-fn put_path(out: &mut Writer, alloc: Global, path: Option<&str>) -> Put
-    ensures { Adds result out.old out.new (path_members (option_copied path.entry)) }
-{
-    match path {
-        Some(path) => Members(&[("path", Scalar::Text(Some(path)))]).add(out, alloc),
-        None => Members::<Scalar<'_>>(&[]).add(out, alloc),
-    }
-}
-
-// Adds the system, the crash and the modules, and the process with the number of its threads.
-#[tactic(auto, unfolding(crate::specs::Report::crash_members))]
-fn put_crash(out: &mut Writer, alloc: Global, report: Report<'_, '_, '_, '_>) -> Put
-    ensures { Adds result out.old out.new (crash_members (report_of report.entry)) }
-{
-    let crash = report.crash;
-    let main = Scalar::Count(main_module(crash.modules.loaded.as_slice()));
-    let id = Scalar::Number(widened(crash.process.id));
-    let count = Scalar::Count(Some(how_many(crash.threads.threads.as_slice())));
-    Members(&[
-        ("status", ReportMember::Scalar(Scalar::Text(Some("OK")))),
-        ("system_info", ReportMember::System(crash)),
-        ("crash_info", ReportMember::CrashInfo(crash)),
-        ("main_module", ReportMember::Scalar(main)),
-        ("modules", ReportMember::Modules(report)),
-        ("unloaded_modules", ReportMember::Unloaded(crash)),
-        ("pid", ReportMember::Scalar(id)),
-        ("thread_count", ReportMember::Scalar(count)),
-    ])
-    .add(out, alloc)
-}
-
-// Returns how many threads there are.
-fn how_many(threads: &[CrashThread]) -> usize
-    ensures { result ≡ length (map thread_value threads.now) }
-{
-    threads.len()
-}
-
-// Adds the thread that crashed, what single streams hold, and what the schema has no member for.
-#[tactic(auto, unfolding(crate::specs::Report::record_members))]
-fn put_records(out: &mut Writer, alloc: Global, report: Report<'_, '_, '_, '_>) -> Put
-    ensures { Adds result out.old out.new (record_members (report_of report.entry)) }
-{
-    let crash = report.crash;
-    let boot_args = Scalar::Text(boot_args(&crash.contents.messages.mac_boot_args));
-    let soft_errors = ReportMember::SoftErrors(soft_errors(&crash.contents.messages.soft_errors));
-    let map_count = Scalar::Count(crash.contents.space.map_count);
-    Members(&[
-        ("crashing_thread", ReportMember::Crashing(report)),
-        ("lsb_release", ReportMember::Release(crash)),
-        ("mac_crash_info", ReportMember::MacCrash(crash)),
-        ("mac_boot_args", ReportMember::Scalar(boot_args)),
-        ("handles", ReportMember::Handles(crash)),
-        ("soft_errors", soft_errors),
-        ("linux_memory_map_count", ReportMember::Scalar(map_count)),
-        ("proc_limits", ReportMember::Limits(crash)),
-        ("minidump", ReportMember::Minidump(report)),
-    ])
-    .add(out, alloc)
-}
-
-// Returns the arguments of macOS's boot.
-fn boot_args(found: &Result<MinidumpMacBootargs, Error>) -> Option<&str>
-    ensures { option_copied result ≡ option_and_then (λ b. b.text)
-        (result_ok (map_ok mac_bootargs_stream.value found.now)) }
-{
-    match found {
-        Ok(found) => as_text(&found.bootargs),
-        Err(_) => None,
-    }
-}
-
-// Returns the text of the soft errors.
-fn soft_errors<'a>(found: &Result<MinidumpSoftErrors<'a>, Error>) -> Option<&'a str>
-    ensures { option_copied result ≡ result_ok (map_ok soft_errors_stream.value found.now) }
-{
-    match found {
-        Ok(found) => Some(found.as_ref()),
-        Err(_) => None,
-    }
-}
-
-// The value of a member: a scalar, or what is made of a part of the crash.
+// The path of the file, if it has one.
 #[derive(Clone, Copy)]
-pub(crate) enum ReportMember<'l, 'a, 's, 'n> {
-    Scalar(Scalar<'l>),
-    System(&'l Crash<'a>),
-    CrashInfo(&'l Crash<'a>),
-    Modules(Report<'l, 'a, 's, 'n>),
-    Unloaded(&'l Crash<'a>),
-    Crashing(Report<'l, 'a, 's, 'n>),
-    Release(&'l Crash<'a>),
-    MacCrash(&'l Crash<'a>),
-    Handles(&'l Crash<'a>),
-    SoftErrors(Option<&'l str>),
-    Limits(&'l Crash<'a>),
-    Minidump(Report<'l, 'a, 's, 'n>),
+struct Path<'l>(Option<&'l str>);
+
+impl Members for Path<'_> {
+    ghost members = { λ path. path_members (option_copied path.0) };
+
+    #[tactic(auto, unfolding(crate::specs::Tree::member_list_tokens))]
+    fn add(&self, out: &mut Writer, alloc: Global) -> Put {
+        match self.0 {
+            Some(path) => members! { "path": path, }.add(out, alloc),
+            None => Ok(()),
+        }
+    }
 }
 
-impl ToJson for ReportMember<'_, '_, '_, '_> {
-    ghost use Rattle.crash_json.specs.Members.{report_member};
+// The system, the crash and the modules, and the process with the number of its threads.
+#[derive(Clone, Copy)]
+struct CrashPart<'l, 'a, 's, 'n>(Report<'l, 'a, 's, 'n>);
 
-    ghost json = { report_member };
+impl Members for CrashPart<'_, '_, '_, '_> {
+    ghost members = { λ part. crash_members (report_of part.0) };
 
-    #[tactic(auto, using(crate::proofs::Tokens::views))]
-    fn put(&self, out: &mut Writer, alloc: Global) -> Put {
-        match self {
-            ReportMember::Scalar(scalar) => scalar.put(out, alloc),
-            ReportMember::System(crash) => put_or_null(out, alloc, &crash.process.system),
-            ReportMember::CrashInfo(crash) => put_crash_info(out, alloc, crash),
-            ReportMember::Modules(report) => put_modules(out, alloc, report),
-            ReportMember::Unloaded(crash) => {
-                put_array(out, alloc, crash.modules.unloaded.as_slice())
-            }
-            ReportMember::Crashing(report) => put_crashing(out, alloc, *report),
-            ReportMember::Release(crash) => put_or_null(out, alloc, &crash.process.release),
-            ReportMember::MacCrash(crash) => {
-                put_found(out, alloc, &crash.contents.messages.mac_crash_info)
-            }
-            ReportMember::Handles(crash) => {
-                put_found(out, alloc, &crash.contents.process.handles)
-            }
-            ReportMember::SoftErrors(text) => put_soft_errors(out, alloc, *text),
-            ReportMember::Limits(crash) => {
-                put_proc_limits(out, alloc, &crash.contents.process.limits)
-            }
-            ReportMember::Minidump(report) => put_minidump(out, alloc, *report),
+    fn add(&self, out: &mut Writer, alloc: Global) -> Put {
+        SystemPart(self.0.crash).add(out, alloc)?;
+        out.key("modules")?;
+        Modules(self.0).put(out, alloc)?;
+        PidPart(self.0.crash).add(out, alloc)?;
+        Ok(())
+    }
+}
+
+// The system, the crash, and which module is the main one.
+#[derive(Clone, Copy)]
+struct SystemPart<'l, 'a>(&'l Crash<'a>);
+
+impl Members for SystemPart<'_, '_> {
+    ghost members = { λ part. system_members (crash_of part.0.now) };
+
+    fn add(&self, out: &mut Writer, alloc: Global) -> Put {
+        let crash = self.0;
+        members! {
+            "status": "OK",
+            "system_info": &crash.process.system,
+            "crash_info": CrashInfo(crash),
+            "main_module": main_module(crash.modules.loaded.as_slice()),
         }
+        .add(out, alloc)
+    }
+}
+
+// The modules that were unloaded, and the process with the number of its threads.
+#[derive(Clone, Copy)]
+struct PidPart<'l, 'a>(&'l Crash<'a>);
+
+impl Members for PidPart<'_, '_> {
+    ghost members = { λ part. pid_members (crash_of part.0.now) };
+
+    fn add(&self, out: &mut Writer, alloc: Global) -> Put {
+        let crash = self.0;
+        members! {
+            "unloaded_modules": &crash.modules.unloaded,
+            "pid": crash.process.id,
+            "thread_count": Length(&crash.threads.threads),
+        }
+        .add(out, alloc)
+    }
+}
+
+// The thread that crashed, what single streams hold, and what the schema has no member for.
+#[derive(Clone, Copy)]
+struct RecordPart<'l, 'a, 's, 'n>(Report<'l, 'a, 's, 'n>);
+
+impl Members for RecordPart<'_, '_, '_, '_> {
+    ghost members = { λ part. record_members (report_of part.0) };
+
+    fn add(&self, out: &mut Writer, alloc: Global) -> Put {
+        out.key("crashing_thread")?;
+        Crashing(self.0).put(out, alloc)?;
+        StreamPart(self.0.crash).add(out, alloc)?;
+        out.key("minidump")?;
+        Minidump(self.0).put(out, alloc)?;
+        Ok(())
+    }
+}
+
+// What single streams hold.
+#[derive(Clone, Copy)]
+struct StreamPart<'l, 'a>(&'l Crash<'a>);
+
+impl Members for StreamPart<'_, '_> {
+    ghost members = { λ part. stream_members (crash_of part.0.now) };
+
+    fn add(&self, out: &mut Writer, alloc: Global) -> Put {
+        let crash = self.0;
+        members! {
+            "lsb_release": &crash.process.release,
+            "mac_crash_info": Found(&crash.contents.messages.mac_crash_info),
+            "mac_boot_args": Found(&crash.contents.messages.mac_boot_args),
+            "handles": Found(&crash.contents.process.handles),
+            "soft_errors": Found(&crash.contents.messages.soft_errors),
+            "linux_memory_map_count": crash.contents.space.map_count,
+            "proc_limits": Found(&crash.contents.process.limits),
+        }
+        .add(out, alloc)
     }
 }

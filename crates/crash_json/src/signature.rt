@@ -1,19 +1,18 @@
 //! The signature of a crash: why it crashed, and in which functions.
 ghost use Rattle.std.specs.Prelude.{◌≡◌, ◌++◌, [], IfOk, OnOk, codes, flat_map, map, string_bytes};
 ghost use Rattle.std.specs.List.{cons_option};
-ghost use Rattle.std.specs.Option.{option_and_then, option_copied, option_map, option_map_or};
+ghost use Rattle.std.specs.Option.{option_copied, option_map};
 ghost use Rattle.crash.specs.Modules.{loaded_of};
-ghost use Rattle.crash.specs.Threads.{crashed_thread};
 ghost use Rattle.crash_symbols.specs.NameParts.{function_of};
-ghost use Rattle.crash_symbols.specs.Shown.{shown_frame_of, shown_in, shown_of};
-ghost use Rattle.crash_json.specs.Members.{report_of};
-ghost use Rattle.crash_json.specs.Signature.{joined, mark_of, mark_text, marks_in, signature_in};
-ghost use Rattle.crash_json.specs.Signature.{with_reason};
+ghost use Rattle.crash_symbols.specs.Shown.{shown_frame_of};
+ghost use Rattle.crash_json.specs.ReportValue.{report_of};
+ghost use Rattle.crash_json.specs.Signature.{crashed_frames, joined, mark_of, mark_text, marks_in};
+ghost use Rattle.crash_json.specs.Signature.{signature_in, with_reason};
 
 use crate::cause::reason_of;
 use crate::report::Report;
 use crash::CrashModule;
-use crash_symbols::{FrameFunction, ShownFrame, ShownWalk, shown_walk};
+use crash_symbols::{FrameFunction, ShownFrame, shown_walk};
 use minidump::text::Piece::{Hex, Words};
 use minidump::text::format_pieces;
 use std::alloc::{AllocError, Global};
@@ -30,39 +29,27 @@ pub(crate) fn signature_in(
     ensures { IfOk result (λ text. option_map string_bytes text
         ≡ signature_in (report_of report.entry)) }
 {
-    let walk = crashed_walk(alloc, report)?;
-    let marks = crashed_marks(alloc, report.crash.modules.loaded.as_slice(), &walk)?;
+    let marks = crashed_marks(alloc, report)?;
     joined(alloc, reason_of(&report.crash.cause), marks.as_slice())
 }
 
-// Returns what is shown of the thread that crashed.
-fn crashed_walk<'s, 'n>(
-    alloc: Global,
-    report: Report<'_, '_, 's, 'n>,
-) -> Result<Option<ShownWalk<'s, 'n>>, AllocError>
-    ensures { IfOk result (λ walk. option_map shown_of walk ≡ option_and_then
-        (λ p. shown_in (report_of report.entry).symbols p.0 p.1)
-        (crashed_thread (report_of report.entry).crash.threads)) }
-{
-    match report.crash.threads.crashed() {
-        Some((index, thread)) => shown_walk(alloc, thread, index, report.symbols),
-        None => Ok(None),
-    }
-}
-
-// Makes the words for the first frames of a walk that are in a module, without its candidates.
+// Makes the words for the first frames of the thread that crashed that are in a module, without its
+// candidates.
 #[tactic(auto, unfolding(crate::specs::Signature::marks_in))]
-fn crashed_marks(
-    alloc: Global,
-    modules: &[CrashModule],
-    walk: &Option<ShownWalk<'_, '_>>,
-) -> Result<Vec<String>, AllocError>
-    ensures { IfOk result
-        (λ marks. map string_bytes marks.items ≡ marks_in (map loaded_of modules.now)
-        (option_map_or (λ w. w.frames) (option_map shown_of walk.now) [])) }
+fn crashed_marks(alloc: Global, report: Report<'_, '_, '_, '_>) -> Result<Vec<String>, AllocError>
+    ensures { IfOk result (λ marks. map string_bytes marks.items
+        ≡ marks_in (report_of report.entry).crash.modules.loaded
+        (crashed_frames (report_of report.entry))) }
 {
-    match walk {
-        Some(walk) => marks_in(alloc, modules, walk.frames.as_slice()),
+    let Some((index, thread)) = report.crash.threads.crashed() else {
+        return Ok(Vec::new(alloc));
+    };
+    match shown_walk(alloc, thread, index, report.symbols)? {
+        Some(walk) => marks_in(
+            alloc,
+            report.crash.modules.loaded.as_slice(),
+            walk.frames.as_slice(),
+        ),
         None => Ok(Vec::new(alloc)),
     }
 }
@@ -145,20 +132,10 @@ fn joined(
     ensures { IfOk result (λ text. option_map string_bytes text
         ≡ joined (with_reason (option_copied reason.entry) (map string_bytes marks.now))) }
 {
-    match reason {
-        Some(reason) => Ok(Some(text_after(alloc, reason, marks)?)),
-        None => joined_marks(alloc, marks),
-    }
-}
-
-// Joins the words for frames.
-fn joined_marks(alloc: Global, marks: &[String]) -> Result<Option<String>, AllocError>
-    ensures { IfOk result (λ text. option_map string_bytes text
-        ≡ joined (map string_bytes marks.now)) }
-{
-    match marks {
-        [first, rest @ ..] => Ok(Some(text_after(alloc, first.as_str(), rest)?)),
-        [] => Ok(None),
+    match (reason, marks) {
+        (Some(reason), marks) => Ok(Some(text_after(alloc, reason, marks)?)),
+        (None, [first, rest @ ..]) => Ok(Some(text_after(alloc, first.as_str(), rest)?)),
+        (None, []) => Ok(None),
     }
 }
 

@@ -1,28 +1,28 @@
 //! Mozilla's soft errors.
 ghost use Rattle.std.specs.Prelude.{◌≡◌, IfOk, IfSome};
-ghost use Rattle.std.specs.Option.{option_copied, option_map};
+ghost use Rattle.std.specs.Option.{option_map};
 ghost use Rattle.json.specs.Tree.{HasNumbers};
 ghost use Rattle.json.specs.Value.{value_view};
-ghost use Rattle.crash_json.specs.Tree.{Puts, or_null};
+ghost use Rattle.minidump.specs.Promise.{soft_errors_stream};
 ghost use Rattle.crash_json.specs.SoftErrors.{soft_json, value_in};
 
-use crate::tree::Put;
+use crate::tree::{Put, ToJson};
 use json::{Reader, Scratch, Value, Writer};
+use minidump::MinidumpSoftErrors;
 use std::alloc::{AllocError, Global};
 
-/// Puts the value of soft errors, which is that of their text if it is JSON, else the text; or
-/// `null`.
-#[tactic(auto, unfolding(crate::specs::SoftErrors::soft_json))]
-pub(crate) fn put_soft_errors(out: &mut Writer, alloc: Global, text: Option<&str>) -> Put
-    ensures { Puts result out.old out.new (or_null soft_json (option_copied text.entry)) }
-{
-    let Some(text) = text else {
-        return out.null();
-    };
-    let mut scratch = Scratch::new(alloc);
-    match value_in(alloc, text, &mut scratch)? {
-        Some(value) => out.value(&value),
-        None => out.string(text),
+// The value of their text if that is JSON, else the text.
+impl ToJson for MinidumpSoftErrors<'_> {
+    ghost json = { λ e. soft_json (soft_errors_stream.value e) };
+
+    #[tactic(auto, unfolding(crate::specs::SoftErrors::soft_json))]
+    fn put(&self, out: &mut Writer, alloc: Global) -> Put {
+        let text = self.as_ref();
+        let mut scratch = Scratch::new(alloc);
+        match value_in(alloc, text, &mut scratch)? {
+            Some(value) => out.value(&value),
+            None => out.string(text),
+        }
     }
 }
 

@@ -1,31 +1,30 @@
 //! The threads, and the one that crashed.
 ghost use Rattle.std.specs.Prelude.{◌≡◌, IfOk, length, map, take};
 ghost use Rattle.std.specs.Option.{option_copied, option_map};
+ghost use Rattle.json.specs.Json.{string};
 ghost use Rattle.crash.specs.Threads.{thread_value, threads_of};
 ghost use Rattle.crash_symbols.specs.Shown.{shown_frame_of, shown_of};
-ghost use Rattle.crash_json.specs.Tree.{Adds, Puts};
-ghost use Rattle.crash_json.specs.Members.{context_in, report_of};
+ghost use Rattle.crash_json.specs.ReportValue.{report_of};
 ghost use Rattle.crash_json.specs.Threads.{candidates_in, crashing_json, end_name, frames_in};
-ghost use Rattle.crash_json.specs.Threads.{index_members, pointer_end_name, range_json};
-ghost use Rattle.crash_json.specs.Threads.{registers_of, short_json, shown_context, thread_members};
+ghost use Rattle.crash_json.specs.Threads.{index_members, range_json, registers_of, short_json, thread_members};
+ghost use Rattle.crash_json.specs.Threads.{threads_json};
 
-use crate::cause::problem_name;
 use crate::frames::EachFrame;
 use crate::report::Report;
-use crate::tree::{Members, NumberedJson, Put, Scalar, ToJson, put_numbered_array, put_or_null};
-use crash::{ContextOrigin, CrashContext, CrashThread, CrashThreads, ShortContext, StackRange};
+use crate::tree::{Decimal, Members, Numbered, NumberedJson, Optional, Put, ToJson, members};
+use crash::{ContextOrigin, CrashThread, CrashThreads, ShortContext, StackRange};
 use crash_symbols::{ShownFrame, ShownWalk, shown_walk};
 use json::Writer;
 use stack_walk::WalkEnd;
 use std::alloc::{AllocError, Global};
 use symbol_walk::SymbolWalkEnd;
 
-/// What the values of threads are made by. With `is_crashing` a thread is written with its index,
-/// and its first frame with its registers: so is `crashing_thread`, and no item of `threads`.
+// What the values of threads are made by. With `is_crashing` a thread is written with its index,
+// and its first frame with its registers: so is `crashing_thread`, and no item of `threads`.
 #[derive(Clone, Copy)]
-pub(crate) struct EachThread<'l, 'a, 's, 'n> {
-    pub(crate) report: Report<'l, 'a, 's, 'n>,
-    pub(crate) is_crashing: bool,
+struct EachThread<'l, 'a, 's, 'n> {
+    report: Report<'l, 'a, 's, 'n>,
+    is_crashing: bool,
 }
 
 impl NumberedJson<CrashThread> for EachThread<'_, '_, '_, '_> {
@@ -34,28 +33,78 @@ impl NumberedJson<CrashThread> for EachThread<'_, '_, '_, '_> {
     ghost json_at = { λ e n t. thread_json (report_of e.report) e.is_crashing n (thread_value t) };
 
     fn put_at(&self, number: usize, item: &CrashThread, out: &mut Writer, alloc: Global) -> Put {
-        let report = self.report;
-        let context = shown_context(self.is_crashing, item);
-        let each = EachFrame { report, context };
+        let (report, is_crashing) = (self.report, self.is_crashing);
         let walk = shown_walk(alloc, item, number, report.symbols)?;
         let frames = first_frames(alloc, &walk, report.limits.frames)?;
+        let by = EachFrame {
+            report,
+            thread: item,
+            is_crashing,
+        };
         out.begin_object()?;
-        put_index(out, alloc, self.is_crashing, number)?;
-        put_members(out, alloc, item, &walk)?;
+        ThreadIndex {
+            is_crashing,
+            number,
+        }
+        .add(out, alloc)?;
+        ThreadPart {
+            thread: item,
+            walk: &walk,
+        }
+        .add(out, alloc)?;
         out.key("frames")?;
-        put_numbered_array(out, alloc, frames.as_slice(), &each)?;
+        Numbered(&frames, &by).put(out, alloc)?;
         out.end_object()
     }
 }
 
-// Returns the context whose registers the first frame shows: that of the thread that crashed alone.
-fn shown_context(is_crashing: bool, thread: &CrashThread) -> Option<&CrashContext>
-    ensures { context_in result ≡ shown_context is_crashing (thread_value thread.now) }
-{
-    if is_crashing {
-        thread.context.as_ref()
-    } else {
-        None
+// The index of a thread, if it is written as the one that crashed.
+#[derive(Clone, Copy)]
+struct ThreadIndex {
+    is_crashing: bool,
+    number: usize,
+}
+
+impl Members for ThreadIndex {
+    ghost members = { λ i. index_members i.is_crashing i.number };
+
+    #[tactic(auto, unfolding(crate::specs::Tree::member_list_tokens))]
+    fn add(&self, out: &mut Writer, alloc: Global) -> Put {
+        if self.is_crashing {
+            members! { "threads_index": self.number, }.add(out, alloc)
+        } else {
+            Ok(())
+        }
+    }
+}
+
+// A thread and what is shown of it, but for the frames.
+#[derive(Clone, Copy)]
+struct ThreadPart<'t, 'w, 's, 'n> {
+    thread: &'t CrashThread,
+    walk: &'w Option<ShownWalk<'s, 'n>>,
+}
+
+impl Members for ThreadPart<'_, '_, '_, '_> {
+    ghost members = { λ part. thread_members (thread_value part.thread.now)
+        (option_map shown_of part.walk.now) };
+
+    fn add(&self, out: &mut Writer, alloc: Global) -> Put {
+        let thread = self.thread;
+        members! {
+            "thread_id": thread.id,
+            "thread_name": Optional(&thread.name),
+            "is_listed": thread.is_listed,
+            "last_error_value": Optional(&thread.last_error),
+            "frame_count": frame_count(self.walk),
+            "candidate_count": candidate_count(self.walk),
+            "stack": thread.stack,
+            "stack_memory": thread.stack_memory,
+            "context_problem": thread.context_problem,
+            "short_context": thread.short_context(),
+            "end": end_of(self.walk),
+        }
+        .add(out, alloc)
     }
 }
 
@@ -72,46 +121,6 @@ fn first_frames<'s, 'n>(
         Some(walk) => walk.first_frames(alloc, limit),
         None => Ok(Vec::new(alloc)),
     }
-}
-
-// Adds the index of the thread if it is the one that crashed.
-fn put_index(out: &mut Writer, alloc: Global, is_crashing: bool, number: usize) -> Put
-    ensures { Adds result out.old out.new (index_members is_crashing number) }
-{
-    if is_crashing {
-        Members(&[("threads_index", Scalar::Count(Some(number)))]).add(out, alloc)
-    } else {
-        Members::<Scalar<'_>>(&[]).add(out, alloc)
-    }
-}
-
-// Adds the members of a thread but its frames.
-#[rattlefmt::skip]
-#[tactic(auto, unfolding(crate::specs::Threads::thread_members))]
-fn put_members(
-    out: &mut Writer,
-    alloc: Global,
-    thread: &CrashThread,
-    walk: &Option<ShownWalk<'_, '_>>,
-) -> Put
-    ensures { Adds result out.old out.new
-        (thread_members (thread_value thread.now) (option_map shown_of walk.now)) }
-{
-    let problem = problem_name(thread.context_problem);
-    Members(&[
-        ("thread_id", ThreadMember::Scalar(Scalar::Number(Some(thread.id as u64)))),
-        ("thread_name", ThreadMember::Scalar(Scalar::Optional(&thread.name))),
-        ("is_listed", ThreadMember::Scalar(Scalar::Flag(thread.is_listed))),
-        ("last_error_value", ThreadMember::Scalar(Scalar::Optional(&thread.last_error))),
-        ("frame_count", ThreadMember::Scalar(Scalar::Count(Some(frame_count(walk))))),
-        ("candidate_count", ThreadMember::Scalar(Scalar::Count(Some(candidate_count(walk))))),
-        ("stack", ThreadMember::Range(thread.stack)),
-        ("stack_memory", ThreadMember::Range(thread.stack_memory)),
-        ("context_problem", ThreadMember::Scalar(Scalar::Text(problem))),
-        ("short_context", ThreadMember::Short(thread.short_context())),
-        ("end", ThreadMember::Scalar(Scalar::Text(end_of(walk)))),
-    ])
-    .add(out, alloc)
 }
 
 // Returns how many frames there are, with the candidates.
@@ -134,60 +143,38 @@ fn candidate_count(walk: &Option<ShownWalk<'_, '_>>) -> usize
     }
 }
 
-// Returns the word for why the last frame has no caller.
-fn end_of(walk: &Option<ShownWalk<'_, '_>>) -> Option<&'static str>
-    ensures { option_copied result
-        ≡ option_map (λ w. end_name w.end) (option_map shown_of walk.now) }
+// Returns why the last frame has no caller.
+fn end_of(walk: &Option<ShownWalk<'_, '_>>) -> Option<SymbolWalkEnd>
+    ensures { result ≡ option_map (λ w. w.end) (option_map shown_of walk.now) }
 {
     match walk {
-        Some(walk) => Some(end_name(walk.end)),
+        Some(walk) => Some(walk.end),
         None => None,
     }
 }
 
+impl ToJson for SymbolWalkEnd {
+    ghost json = { λ end. string (end_name end) };
+
+    fn put(&self, out: &mut Writer, _alloc: Global) -> Put {
+        out.string(end_name(*self))
+    }
+}
+
+// Returns the word for why the last frame has no caller.
 fn end_name(end: SymbolWalkEnd) -> &'static str
     ensures { result.now ≡ end_name end }
 {
     match end {
-        SymbolWalkEnd::Walk(end) => pointer_end_name(end),
+        SymbolWalkEnd::Walk(WalkEnd::NoMemory) => "no_memory",
+        SymbolWalkEnd::Walk(WalkEnd::UnknownWidth) => "unknown_width",
+        SymbolWalkEnd::Walk(WalkEnd::NoFramePointer) => "no_frame_pointer",
+        SymbolWalkEnd::Walk(WalkEnd::ZeroFramePointer) => "zero_frame_pointer",
+        SymbolWalkEnd::Walk(WalkEnd::BelowStackPointer) => "below_stack_pointer",
+        SymbolWalkEnd::Walk(WalkEnd::NoRecord) => "no_record",
+        SymbolWalkEnd::Walk(WalkEnd::NoCode) => "no_code",
         SymbolWalkEnd::NoReturnRule => "no_return_rule",
         SymbolWalkEnd::ZeroReturnAddress => "zero_return_address",
-    }
-}
-
-fn pointer_end_name(end: WalkEnd) -> &'static str
-    ensures { result.now ≡ pointer_end_name end }
-{
-    match end {
-        WalkEnd::NoMemory => "no_memory",
-        WalkEnd::UnknownWidth => "unknown_width",
-        WalkEnd::NoFramePointer => "no_frame_pointer",
-        WalkEnd::ZeroFramePointer => "zero_frame_pointer",
-        WalkEnd::BelowStackPointer => "below_stack_pointer",
-        WalkEnd::NoRecord => "no_record",
-        WalkEnd::NoCode => "no_code",
-    }
-}
-
-// The value of a member of a thread.
-#[derive(Clone, Copy)]
-pub(crate) enum ThreadMember<'l> {
-    Scalar(Scalar<'l>),
-    Range(Option<StackRange>),
-    Short(Option<ShortContext>),
-}
-
-impl ToJson for ThreadMember<'_> {
-    ghost use Rattle.crash_json.specs.Members.{thread_member};
-
-    ghost json = { thread_member };
-
-    fn put(&self, out: &mut Writer, alloc: Global) -> Put {
-        match self {
-            ThreadMember::Scalar(scalar) => scalar.put(out, alloc),
-            ThreadMember::Range(range) => put_or_null(out, alloc, range),
-            ThreadMember::Short(short) => put_or_null(out, alloc, short),
-        }
     }
 }
 
@@ -196,11 +183,9 @@ impl ToJson for StackRange {
 
     #[tactic(auto, unfolding(crate::specs::Threads::range_json))]
     fn put(&self, out: &mut Writer, alloc: Global) -> Put {
-        Members(&[
-            ("base_addr", Scalar::Hex(Some(self.base))),
-            ("size", Scalar::Number(Some(self.size))),
-        ])
-        .put(out, alloc)
+        members! { "base_addr": self.base, "size": Decimal(Some(self.size)), }.put_object(
+            out, alloc,
+        )
     }
 }
 
@@ -209,26 +194,45 @@ impl ToJson for ShortContext {
 
     #[tactic(auto, unfolding(crate::specs::Threads::short_json))]
     fn put(&self, out: &mut Writer, alloc: Global) -> Put {
-        Members(&[
-            ("size", Scalar::Count(Some(self.size))),
-            ("whole", Scalar::Count(Some(self.whole))),
-        ])
-        .put(out, alloc)
+        members! { "size": self.size, "whole": self.whole, }.put_object(out, alloc)
     }
 }
 
-/// Puts the thread that crashed, or `null`.
-pub(crate) fn put_crashing(out: &mut Writer, alloc: Global, report: Report<'_, '_, '_, '_>) -> Put
-    ensures { Puts result out.old out.new (crashing_json (report_of report.entry)) }
-{
-    let is_crashing = true;
-    match report.crash.threads.crashed() {
-        Some((n, thread)) => EachThread {
-            report,
-            is_crashing,
+/// The threads.
+#[derive(Clone, Copy)]
+pub(crate) struct Threads<'l, 'a, 's, 'n>(pub(crate) Report<'l, 'a, 's, 'n>);
+
+impl ToJson for Threads<'_, '_, '_, '_> {
+    ghost json = { λ t. threads_json (report_of t.0) };
+
+    #[tactic(auto, unfolding(crate::specs::Threads::threads_json), using(crate::proofs::Tokens::numbered_values))]
+    fn put(&self, out: &mut Writer, alloc: Global) -> Put {
+        let by = EachThread {
+            report: self.0,
+            is_crashing: false,
+        };
+        Numbered(&self.0.crash.threads.threads, &by).put(out, alloc)
+    }
+}
+
+// ---- the thread that crashed
+
+/// The thread that crashed, or none.
+#[derive(Clone, Copy)]
+pub(crate) struct Crashing<'l, 'a, 's, 'n>(pub(crate) Report<'l, 'a, 's, 'n>);
+
+impl ToJson for Crashing<'_, '_, '_, '_> {
+    ghost json = { λ c. crashing_json (report_of c.0) };
+
+    fn put(&self, out: &mut Writer, alloc: Global) -> Put {
+        let by = EachThread {
+            report: self.0,
+            is_crashing: true,
+        };
+        match self.0.crash.threads.crashed() {
+            Some((number, thread)) => by.put_at(number, thread, out, alloc),
+            None => out.null(),
         }
-        .put_at(n, thread, out, alloc),
-        None => out.null(),
     }
 }
 

@@ -1,43 +1,22 @@
-//! Writes JSON values, an object or an array at a time, with the writer of `json`.
+//! Writes JSON values with the writer of `json`.
 //!
 //! A type has a JSON value by [`ToJson`], and so has each item of a list; by [`NumberedJson`] an item's
-//! value has its number in it. [`Members`] are the members of an object, whose values are of one type:
-//! it puts the object, or adds them to those that were put.
-ghost use Rattle.std.specs.Prelude.{◌≡◌, ℕ, IfOk, map, string_bytes};
-ghost use Rattle.std.specs.Option.{option_copied};
+//! value has its number in it. A type that stands for members of an object adds them by [`Members`], and
+//! `members!` lists members, each by its name.
+ghost use Rattle.std.specs.Prelude.{ℕ, List, [], ◌∷◌, ◌++◌, length, string_bytes};
+ghost use Rattle.std.specs.Option.{option_copied, option_map};
 ghost use Rattle.std.specs.Result.{result_ok};
-ghost use Rattle.json.specs.Json.{Json, string};
-ghost use Rattle.crash_json.specs.Tree.{Adds, Puts, array_of, hex_text, member_of};
+ghost use Rattle.json.specs.Json.{Json, boolean, null, string};
+ghost use Rattle.crash_json.specs.Tree.{Adds, Puts, array_of, count, hex_string};
 ghost use Rattle.crash_json.specs.Tree.{numbered_array_of, object_of, or_null};
 
 use json::Writer;
-use minidump_bytes::{Piece, as_text, format_pieces};
+use minidump_bytes::{LinuxOsStr, Piece, format_pieces};
 use minidump_format::Error;
 use std::alloc::{AllocError, Global};
 
 /// What a call that puts JSON returns: `AllocError` if an allocation fails.
 pub(crate) type Put = Result<(), AllocError>;
-
-/// A value without parts.
-#[derive(Clone, Copy)]
-pub(crate) enum Scalar<'a> {
-    /// `null`.
-    Null,
-    /// A text, or `null`.
-    Text(Option<&'a str>),
-    /// A text that is owned.
-    Owned(&'a String),
-    /// A text that is owned, or `null`.
-    Optional(&'a Option<String>),
-    /// A number in decimal, or `null`.
-    Number(Option<u64>),
-    /// A count or an index in decimal, or `null`.
-    Count(Option<usize>),
-    /// A number in hexadecimal, as the text `"0x1f"`, or `null`.
-    Hex(Option<u64>),
-    /// `true` or `false`.
-    Flag(bool),
-}
 
 /// A type that has a JSON value.
 pub(crate) trait ToJson {
@@ -48,78 +27,280 @@ pub(crate) trait ToJson {
         ensures { Puts result out.old out.new (json self.now) };
 }
 
-/// Members of an object, whose values are of one type.
-#[derive(Clone, Copy)]
-pub(crate) struct Members<'l, 'n, T>(pub(crate) &'l [(&'n str, T)]);
+// ---- objects
 
-impl<T: ToJson> Members<'_, '_, T> {
+/// A type that stands for members of an object.
+pub(crate) trait Members {
+    ghost members: { Self → List (List ℕ × Json) };
+
+    /// Adds the members to those of an object.
+    fn add(&self, out: &mut Writer, alloc: Global) -> Put
+        ensures { Adds result out.old out.new (members self.now) };
+
     /// Puts the object of the members.
     #[tactic(auto, using(crate::proofs::Tokens::object_of_members))]
-    pub(crate) fn put(&self, out: &mut Writer, alloc: Global) -> Put
-        ensures { Puts result out.old out.new (object_of (map (member_of T.json) self.now.0.now)) }
+    final fn put_object(&self, out: &mut Writer, alloc: Global) -> Put
+        ensures { Puts result out.old out.new (object_of (members self.now)) }
     {
         out.begin_object()?;
         self.add(out, alloc)?;
         out.end_object()
     }
+}
 
-    /// Adds the members to those of an object.
+/// Lists members of an object, each its name and its value, as `members! { "size": self.size, }`.
+/// The members of a value that stands for some are listed by `..` and that value.
+macro_rules! members {
+    () => { () };
+    (..$rest:expr $(,)?) => { $rest };
+    (..$part:expr, $($rest:tt)*) => { ($part, members! { $($rest)* }) };
+    ($name:literal: $value:expr, $($rest:tt)*) => { ($name, $value, members! { $($rest)* }) };
+}
+
+pub(crate) use members;
+
+impl Members for () {
+    ghost members = { λ _. [] };
+
     #[tactic(auto, unfolding(crate::specs::Tree::member_list_tokens))]
-    pub(crate) fn add(&self, out: &mut Writer, alloc: Global) -> Put
-        ensures { Adds result out.old out.new (map (member_of T.json) self.now.0.now) }
-    {
-        let members = self.0;
-        for (name, value) in members {
-            out.key(name)?;
-            value.put(out, alloc)?;
-        }
+    fn add(&self, _out: &mut Writer, _alloc: Global) -> Put {
         Ok(())
     }
 }
 
-impl ToJson for Scalar<'_> {
-    ghost use Rattle.crash_json.specs.Tree.{scalar_json};
+// A name, its value, and the members after it.
+impl<'n, T: ToJson, R: Members> Members for (&'n str, T, R) {
+    ghost members = { λ m. (m.0.now, T.json m.1) ∷ R.members m.2 };
 
-    ghost json = { scalar_json };
+    #[tactic(auto, unfolding(crate::specs::Tree::member_list_tokens))]
+    fn add(&self, out: &mut Writer, alloc: Global) -> Put {
+        out.key(self.0)?;
+        self.1.put(out, alloc)?;
+        self.2.add(out, alloc)
+    }
+}
 
+// Members, and others after them.
+impl<A: Members, B: Members> Members for (A, B) {
+    ghost members = { λ m. A.members m.0 ++ B.members m.1 };
+
+    #[tactic(auto, using(crate::proofs::Tokens::more))]
+    fn add(&self, out: &mut Writer, alloc: Global) -> Put {
+        self.0.add(out, alloc)?;
+        self.1.add(out, alloc)
+    }
+}
+
+impl<'l, M: Members> Members for &'l M {
+    ghost members = { λ m. M.members m.now };
+
+    fn add(&self, out: &mut Writer, alloc: Global) -> Put {
+        (**self).add(out, alloc)
+    }
+}
+
+// ---- values without parts
+
+// `null`.
+impl ToJson for () {
+    ghost json = { λ _. null };
+
+    fn put(&self, out: &mut Writer, _alloc: Global) -> Put {
+        out.null()
+    }
+}
+
+impl ToJson for bool {
+    ghost json = { boolean };
+
+    fn put(&self, out: &mut Writer, _alloc: Global) -> Put {
+        out.boolean(*self)
+    }
+}
+
+// A byte of code, in decimal.
+impl ToJson for u8 {
+    ghost json = { count };
+
+    fn put(&self, out: &mut Writer, _alloc: Global) -> Put {
+        out.u64(*self as u64)
+    }
+}
+
+// An id or a number of a line, in decimal.
+impl ToJson for u32 {
+    ghost json = { count };
+
+    fn put(&self, out: &mut Writer, _alloc: Global) -> Put {
+        out.u64(*self as u64)
+    }
+}
+
+// A count or an index, in decimal.
+impl ToJson for usize {
+    ghost json = { count };
+
+    fn put(&self, out: &mut Writer, _alloc: Global) -> Put {
+        out.u64(*self as u64)
+    }
+}
+
+// An address, an offset or a code, in hexadecimal, as the text `"0x1f"`.
+impl ToJson for u64 {
+    ghost json = { hex_string };
+
+    #[tactic(auto, unfolding(crate::specs::Tree::hex_text))]
     fn put(&self, out: &mut Writer, alloc: Global) -> Put {
-        match *self {
-            Scalar::Text(text) => put_text(out, text),
-            Scalar::Owned(text) => out.string(text.as_str()),
-            Scalar::Optional(text) => put_text(out, as_text(text)),
-            Scalar::Number(Some(number)) => out.u64(number),
-            Scalar::Count(Some(number)) => out.u64(number as u64),
-            Scalar::Hex(Some(number)) => {
-                let text = hex_text(alloc, number)?;
-                out.string(text.as_str())
-            }
-            Scalar::Flag(flag) => out.boolean(flag),
-            Scalar::Null | Scalar::Number(None) | Scalar::Count(None) | Scalar::Hex(None) => {
-                out.null()
-            }
+        let text = format_pieces(alloc, &[Piece::Hex(*self)])?;
+        out.string(text.as_str())
+    }
+}
+
+/// A size or a count of 64 bits in decimal, or `null`.
+#[derive(Clone, Copy)]
+pub(crate) struct Decimal(pub(crate) Option<u64>);
+
+impl ToJson for Decimal {
+    ghost json = { λ d. or_null count d.0 };
+
+    fn put(&self, out: &mut Writer, _alloc: Global) -> Put {
+        match self.0 {
+            Some(number) => out.u64(number),
+            None => out.null(),
         }
     }
 }
 
-// Puts a text that may be absent.
-fn put_text(out: &mut Writer, text: Option<&str>) -> Put
-    ensures { Puts result out.old out.new (or_null string (option_copied text.entry)) }
-{
-    match text {
-        Some(text) => out.string(text),
-        None => out.null(),
+impl<'l> ToJson for &'l str {
+    ghost json = { λ text. string text.now };
+
+    fn put(&self, out: &mut Writer, _alloc: Global) -> Put {
+        out.string(*self)
     }
 }
 
-// Makes the text of a number in hexadecimal.
-#[tactic(auto, unfolding(crate::specs::Tree::hex_text))]
-fn hex_text(alloc: Global, number: u64) -> Result<String, AllocError>
-    ensures { IfOk result (λ text. string_bytes text ≡ hex_text number) }
-{
-    format_pieces(alloc, &[Piece::Hex(number)])
+impl ToJson for String {
+    ghost json = { λ text. string (string_bytes text) };
+
+    fn put(&self, out: &mut Writer, _alloc: Global) -> Put {
+        out.string(self.as_str())
+    }
+}
+
+/// A text, or `null`.
+#[derive(Clone, Copy)]
+pub(crate) struct Text<'l>(pub(crate) Option<&'l str>);
+
+impl ToJson for Text<'_> {
+    ghost json = { λ text. or_null string (option_copied text.0) };
+
+    fn put(&self, out: &mut Writer, _alloc: Global) -> Put {
+        match self.0 {
+            Some(text) => out.string(text),
+            None => out.null(),
+        }
+    }
+}
+
+/// A text that is owned, or `null`.
+#[derive(Clone, Copy)]
+pub(crate) struct Optional<'l>(pub(crate) &'l Option<String>);
+
+impl ToJson for Optional<'_> {
+    ghost json = { λ text. or_null string (option_map string_bytes text.0.now) };
+
+    fn put(&self, out: &mut Writer, _alloc: Global) -> Put {
+        match self.0 {
+            Some(text) => out.string(text.as_str()),
+            None => out.null(),
+        }
+    }
+}
+
+// A text that Linux wrote: what isn't UTF-8 is U+FFFD.
+impl ToJson for LinuxOsStr<'_> {
+    ghost use Rattle.std.specs.Str.Lossy.{utf8_lossy};
+    ghost use Rattle.minidump_bytes.specs.LinuxOsStr.{text_of};
+
+    ghost json = { λ text. string (utf8_lossy (text_of text)) };
+
+    fn put(&self, out: &mut Writer, alloc: Global) -> Put {
+        let text = self.to_string_lossy(alloc)?;
+        out.string(text.as_str())
+    }
+}
+
+// ---- values of others
+
+impl<'l, T: ToJson> ToJson for &'l T {
+    ghost json = { λ item. T.json item.now };
+
+    fn put(&self, out: &mut Writer, alloc: Global) -> Put {
+        (**self).put(out, alloc)
+    }
+}
+
+// A value, or `null`.
+impl<T: ToJson> ToJson for Option<T> {
+    ghost json = { or_null T.json };
+
+    fn put(&self, out: &mut Writer, alloc: Global) -> Put {
+        match self {
+            Some(item) => item.put(out, alloc),
+            None => out.null(),
+        }
+    }
+}
+
+/// The value of a stream, or `null` if it can't be read.
+#[derive(Clone, Copy)]
+pub(crate) struct Found<'l, T>(pub(crate) &'l Result<T, Error>);
+
+impl<T: ToJson> ToJson for Found<'_, T> {
+    ghost json = { λ found. or_null T.json (result_ok found.0.now) };
+
+    fn put(&self, out: &mut Writer, alloc: Global) -> Put {
+        match self.0 {
+            Ok(item) => item.put(out, alloc),
+            Err(_) => out.null(),
+        }
+    }
 }
 
 // ---- lists
+
+impl<'l, T: ToJson> ToJson for &'l [T] {
+    ghost json = { λ items. array_of T.json items.now };
+
+    fn put(&self, out: &mut Writer, alloc: Global) -> Put {
+        let items = *self;
+        out.begin_array()?;
+        for x in items {
+            x.put(out, alloc)?;
+        }
+        out.end_array()
+    }
+}
+
+impl<T: ToJson> ToJson for Vec<T> {
+    ghost json = { λ items. array_of T.json items.items };
+
+    fn put(&self, out: &mut Writer, alloc: Global) -> Put {
+        self.as_slice().put(out, alloc)
+    }
+}
+
+/// How many items a list has.
+#[derive(Clone, Copy)]
+pub(crate) struct Length<'l, T>(pub(crate) &'l Vec<T>);
+
+impl<T> ToJson for Length<'_, T> {
+    ghost json = { λ l. count (length l.0.now.items) };
+
+    fn put(&self, out: &mut Writer, _alloc: Global) -> Put {
+        out.u64(self.0.len() as u64)
+    }
+}
 
 /// Gives the items of a list their JSON values, by their numbers, from 0 on.
 pub(crate) trait NumberedJson<X> {
@@ -130,57 +311,20 @@ pub(crate) trait NumberedJson<X> {
         ensures { Puts result out.old out.new (json_at self.now number item.now) };
 }
 
-/// Puts a value, or `null`.
-pub(crate) fn put_or_null<T: ToJson>(out: &mut Writer, alloc: Global, item: &Option<T>) -> Put
-    ensures { Puts result out.old out.new (or_null T.json item.now) }
-{
-    match item {
-        Some(item) => item.put(out, alloc),
-        None => out.null(),
-    }
-}
+/// The items of a list, whose values may depend on their numbers.
+#[derive(Clone, Copy)]
+pub(crate) struct Numbered<'l, X, F>(pub(crate) &'l Vec<X>, pub(crate) &'l F);
 
-/// Puts the value of a stream, or `null` if it can't be read.
-pub(crate) fn put_found<T: ToJson>(out: &mut Writer, alloc: Global, found: &Result<T, Error>) -> Put
-    ensures { Puts result out.old out.new (or_null T.json (result_ok found.now)) }
-{
-    match found {
-        Ok(item) => item.put(out, alloc),
-        Err(_) => out.null(),
-    }
-}
-
-impl<'l, T: ToJson> ToJson for &'l [T] {
-    ghost json = { λ items. array_of T.json items.now };
+impl<X, F: NumberedJson<X>> ToJson for Numbered<'_, X, F> {
+    ghost json = { λ n. numbered_array_of (F.json_at n.1.now) n.0.now.items };
 
     fn put(&self, out: &mut Writer, alloc: Global) -> Put {
-        put_array(out, alloc, *self)
+        let by = self.1;
+        let items = self.0.as_slice();
+        out.begin_array()?;
+        for (number, x) in items.iter().enumerate() {
+            by.put_at(number, x, out, alloc)?;
+        }
+        out.end_array()
     }
-}
-
-/// Puts an array of the values of items.
-pub(crate) fn put_array<T: ToJson>(out: &mut Writer, alloc: Global, items: &[T]) -> Put
-    ensures { Puts result out.old out.new (array_of T.json items.now) }
-{
-    out.begin_array()?;
-    for x in items {
-        x.put(out, alloc)?;
-    }
-    out.end_array()
-}
-
-/// Puts an array of the values of items, which may depend on their numbers.
-pub(crate) fn put_numbered_array<X, F: NumberedJson<X>>(
-    out: &mut Writer,
-    alloc: Global,
-    items: &[X],
-    by: &F,
-) -> Put
-    ensures { Puts result out.old out.new (numbered_array_of (F.json_at by.now) items.now) }
-{
-    out.begin_array()?;
-    for (number, x) in items.iter().enumerate() {
-        by.put_at(number, x, out, alloc)?;
-    }
-    out.end_array()
 }

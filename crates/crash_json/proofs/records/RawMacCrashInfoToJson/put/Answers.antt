@@ -16,4 +16,4 @@ returns c = rw (
   c.signature_string.ensures,
   c.backtrace.ensures,
   c.message2.ensures,
-) at c.put.ensures
+) at c.put_object.ensures

@@ -1,0 +1,8 @@
+-- The values of the list.
+use Rattle.crash_json.specs.Crashpad.{crashpad_module_json}
+use Rattle.crash_json.proofs.Tokens.{views}
+use Rattle.crash_json.proofs.crashpad.MinidumpModuleCrashpadInfoToJson.put.Goals as goal
+
+pub returns : goal.returns
+unfolding crashpad_module_json
+returns c = simp views (simp views at c.put_object.ensures)
