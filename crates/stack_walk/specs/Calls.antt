@@ -7,7 +7,7 @@ use Rattle.minidump.specs.declared.system_info.Cpu.{Cpu}
 use Rattle.minidump.specs.declared.system_info.Cpu.TheVariants as cpu
 use Rattle.minidump.specs.Below.Index.Lookup.{looked_up}
 use Rattle.minidump.specs.Below.MemoryLists.Memory.{range_of_region}
-use Rattle.minidump.specs.Below.MemoryLists.Unified.{UnifiedRegion, UnifiedRegions, unified_regions}
+use Rattle.minidump.specs.Below.MemoryLists.Unified.{UnifiedRegions, unified_regions}
 use Rattle.minidump.specs.Below.Modules.Module.{ModuleValue}
 use Rattle.stack_walk.specs.Lookups.{module_offset_at}
 
@@ -16,18 +16,15 @@ abbrev pub is_past_headers : List ModuleValue → ℕ → Bool
 is_past_headers modules address =
     option_map_or (λ offset. nat_le 4096 offset) (module_offset_at modules (Some address)) false
 
--- how many bytes an operand with a SIB byte has, by the mode of its ModR/M byte and the base of its SIB
--- byte: these two, and a displacement of one byte in mode 1, of four in mode 2 and where the base is 5
--- (Intel's manual, volume 2, tables 2-2 and 2-3)
-abbrev pub operand_length_with_sib : ℕ → ℕ → ℕ
-operand_length_with_sib mode base = if mode == 1 then 3 else if mode == 2 || base == 5 then 6 else 2
-
--- how many bytes an operand has: its ModR/M byte alone in mode 3; a SIB byte where the register is 4;
--- else a displacement of one byte in mode 1, of four in mode 2 and where the register is 5
+-- how many bytes an operand has, by mode and register of its ModR/M byte and the base of its SIB byte:
+-- the first alone in mode 3; the second where the register is 4; and a displacement of one byte in mode
+-- 1, of four in mode 2 and where the register, or with a SIB byte the base, is 5 (Intel's manual,
+-- volume 2, tables 2-2 and 2-3)
 unfoldable pub operand_length : ℕ → ℕ → ℕ → ℕ
-operand_length mode register base =
-    if mode == 3 then 1 else if register == 4 then operand_length_with_sib mode base
-    else if mode == 1 then 2 else if mode == 2 || register == 5 then 5 else 1
+operand_length mode register base = if mode == 3 then 1
+    else (let sib = if register == 4 then 1 else 0 in
+    let last = if register == 4 then base else register in
+    1 + sib + (if mode == 1 then 1 else if mode == 2 || last == 5 then 4 else 0))
 
 -- a byte and an operand of so many bytes, by its first two, are a call by register or memory: FF with a
 -- ModR/M byte whose bits 3 to 5 are 2
@@ -56,16 +53,13 @@ ends_call cpu.X86_64 bytes = ends_x86_call bytes
 ends_call cpu.Arm64 bytes = ends_arm64_call bytes
 ends_call _ bytes = true
 
--- the seven bytes of a region of which the last is at an offset, if it has them
-abbrev pub bytes_before : UnifiedRegion → ℕ → Option (List ℕ)
-bytes_before region offset =
-    if nat_le 6 offset && nat_lt offset (length region.bytes)
-    then Some (slice_range region.bytes (offset - 6) (offset + 1)) else None
-
--- those of which the last is at an address, in the kept region of the memory that contains it
+-- the seven bytes of which the last is at an address, if the kept region of the memory that contains
+-- it has them
 abbrev pub bytes_until : UnifiedRegions → ℕ → Option (List ℕ)
-bytes_until memory address =
-    option_and_then (λ region. bytes_before region (address - region.base_address))
+bytes_until memory address = option_and_then
+    (λ region. let offset = address - region.base_address in
+    if nat_le 6 offset && nat_lt offset (length region.bytes)
+    then Some (slice_range region.bytes (offset - 6) (offset + 1)) else None)
     (looked_up range_of_region (unified_regions memory) address)
 
 -- whether a call ends with the byte at an address, by the dump's memory: also where that doesn't

@@ -1,5 +1,5 @@
 -- The callers of a frame of any kind, from each frame to its caller.
-use Rattle.std.specs.Prelude.{◌≡◌, ℕ, List, [], ◌∷◌, Option, Some, None}
+use Rattle.std.specs.Prelude.{◌≡◌, ℕ, zero, suc, List, [], ◌∷◌, Option, Some, None}
 use Rattle.std.specs.Option.{option_map_or}
 
 module _ {F : Type 0} (caller_of : F → Option F) where
@@ -9,15 +9,10 @@ module _ {F : Type 0} (caller_of : F → Option F) where
   AreCallers f [] last = (caller_of f ≡ None) × (last ≡ f)
   AreCallers f (g ∷ gs) last = (caller_of f ≡ Some g) × AreCallers g gs last
 
-module _ {F : Type 0} (caller_here : F → ℕ → Option F) where
-  -- the callers of a frame by these ascending addresses, where `caller_here f a` is the caller of f if
-  -- the address a leads to it: the caller to which the first leads, and its callers by the addresses
-  -- above; where there is none, those by the addresses above
-  unfoldable pub callers_at : F → List ℕ → List F
-  callers_at f [] = []
-  callers_at f (address ∷ above) =
-      option_map_or (λ caller. caller ∷ callers_at caller above) (caller_here f address)
-      (callers_at f above)
+  -- the callers of a frame, the innermost first, or as many of them as this number
+  unfoldable pub callers_of : ℕ → F → List F
+  callers_of zero f = []
+  callers_of (suc n) f = option_map_or (λ caller. caller ∷ callers_of n caller) (caller_of f) []
 
 -- the last of a frame and its callers
 abbrev pub outermost : {F : Type 0} → F → List F → F

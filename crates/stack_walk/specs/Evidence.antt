@@ -6,8 +6,7 @@ use Rattle.minidump.specs.declared.MinidumpContext.{MinidumpContext}
 use Rattle.minidump.specs.declared.system_info.PointerWidth.{PointerWidth}
 use Rattle.minidump.specs.Below.System.Cpu.{pointer_bytes}
 use Rattle.stack_walk.specs.declared.frame.FrameTrust.{FrameTrust}
-use Rattle.stack_walk.specs.declared.frame.FrameTrust.TheVariants.{Context, Cfi, FramePointer, Scan}
-use Rattle.stack_walk.specs.declared.frame.FrameTrust.TheVariants.{Link}
+use Rattle.stack_walk.specs.declared.frame.FrameTrust.TheVariants.{FramePointer, Scan, Link}
 use Rattle.stack_walk.specs.declared.frame.StackFrame.{StackFrame}
 use Rattle.stack_walk.specs.Addresses.{unsigned}
 use Rattle.stack_walk.specs.Frames.{StackValue, link_in, pointer_at}
@@ -16,13 +15,11 @@ use Rattle.stack_walk.specs.Frames.{StackValue, link_in, pointer_at}
 -- nor of a frame by rules, whose return address may stand elsewhere or in a register, nor of that of
 -- the link register
 abbrev pub word_below : FrameTrust → ℕ → ℕ → Option ℕ
-word_below Context stack_pointer size = None
-word_below Cfi stack_pointer size = None
 word_below FramePointer stack_pointer size = if nat_le size stack_pointer
     then Some (stack_pointer - size) else None
 word_below Scan stack_pointer size = if nat_le size stack_pointer then Some (stack_pointer - size)
     else None
-word_below Link stack_pointer size = None
+word_below _ stack_pointer size = None
 
 -- the address at which the return address of a frame stands: none of a context, of a frame by rules,
 -- or of that of the link register

@@ -4,7 +4,7 @@ use Rattle.std.specs.Prelude.{◌≡◌, ℕ, ◌+◌, ◌-◌, ◌*◌, ◌/◌
 use Rattle.std.specs.Prelude.{List, [], ◌∷◌, ◌++◌, codes, length, take, slice_get, Option, Some, None}
 use Rattle.std.specs.Prelude.{true, false, if◌then◌else◌, unwrap_or}
 use Rattle.std.specs.Int.{div_ceil}
-use Rattle.std.specs.List.{cons_option, filter, filter_map, range_with_len}
+use Rattle.std.specs.List.{cons_option, filter_map, fold, list_any, range_with_len}
 use Rattle.std.specs.Option.{option_and_then, option_map, option_map_or}
 use Rattle.minidump.specs.declared.MinidumpContext.{MinidumpContext}
 use Rattle.minidump.specs.declared.MinidumpRawContext.{MinidumpRawContext}
@@ -22,8 +22,7 @@ use Rattle.minidump.specs.Below.Modules.Module.{ModuleValue}
 use Rattle.minidump.specs.Below.Modules.ModuleList.{module_list_of}
 use Rattle.minidump.specs.Below.System.Cpu.{pointer_bytes}
 use Rattle.stack_walk.specs.declared.frame.FrameTrust.{FrameTrust}
-use Rattle.stack_walk.specs.declared.frame.FrameTrust.TheVariants.{Context, Cfi, FramePointer, Scan}
-use Rattle.stack_walk.specs.declared.frame.FrameTrust.TheVariants.{Link}
+use Rattle.stack_walk.specs.declared.frame.FrameTrust.TheVariants.{Context, Cfi, FramePointer, Scan, Link}
 use Rattle.stack_walk.specs.declared.frame.StackFrame.{StackFrame}
 use Rattle.stack_walk.specs.declared.stack.Stack.{Stack}
 use Rattle.stack_walk.specs.Addresses.{address_after, unmarked, unsigned}
@@ -104,9 +103,7 @@ context_frame c = record {
 abbrev pub has_link : MinidumpRawContext → Bool
 has_link (X86 c) = false
 has_link (Amd64 c) = false
-has_link (Arm c) = true
-has_link (Arm64 c) = true
-has_link (OldArm64 c) = true
+has_link _ = true
 
 -- the link register of a context
 abbrev pub link_in : MinidumpContext → Option ℕ
@@ -115,26 +112,21 @@ link_in c = if has_link c.raw then valid_value_in c.valid (registers_of c.raw) (
 
 -- ---- callers, by frame pointers
 
--- the caller that a record gives, by the address after the record, the saved frame pointer and the
--- return address; none where no kept module has the call. Its frame pointer is the saved one without
--- the mark of Swift
-abbrev pub caller_by : StackValue → ℕ → ℕ → ℕ → Option StackFrame
-caller_by s after saved address = option_and_then (λ call. if is_code s.modules call
+-- the frame to which the record at an address returns. A record is two words: the saved frame
+-- pointer, which the frame has without the mark of Swift, and the return address. None where no
+-- address lies after it, or no kept module has the call
+unfoldable pub caller_at : StackValue → ℕ → ℕ → Option StackFrame
+caller_at s size address = option_and_then
+    (λ after. option_and_then (λ saved. option_and_then (λ return_address. option_and_then
+    (λ call. if is_code s.modules call
     then Some (record {
-      instruction = address;
+      instruction = return_address;
       stack_pointer = after;
       frame_pointer = Some (unmarked saved);
       trust = FramePointer;
     })
-    else None) (call_site s.cpu address)
-
--- the frame to which the record at an address returns. A record is two words: the saved frame
--- pointer and the return address. None where no address lies after it
-unfoldable pub caller_at : StackValue → ℕ → ℕ → Option StackFrame
-caller_at s size address = option_and_then
-    (λ after. option_and_then (λ saved. option_and_then (caller_by s after saved)
-    (return_at s (address + size))) (pointer_at s address))
-    (address_after s.width address (2 * size))
+    else None) (call_site s.cpu return_address)) (return_at s (address + size)))
+    (pointer_at s address)) (address_after s.width address (2 * size))
 
 -- where the record of a frame stands: at its frame pointer without the mark of Swift, which that of a
 -- context, or one that rules give, may have
@@ -152,37 +144,26 @@ caller_of s f = option_and_then (λ size. option_and_then (λ address.
     if nat_lt address f.stack_pointer then None else caller_at s size address) (record_of f))
     (pointer_bytes s.width)
 
--- the frames from one on: that frame and its callers, and the last of them
-pub record IsWalk (s : StackValue) (first : StackFrame) (frames : List StackFrame)
-    (last : StackFrame) : Type 0 where
-  pub callers : List StackFrame
-  pub whole : frames ≡ first ∷ callers
-  pub are_callers : AreCallers (caller_of s) first callers last
-
 -- ---- candidates, by the words of the stack
 
--- whether the last byte of a call may stand at an address: past the headers of a kept module, where
--- the memory may be run, and by the bytes there, if the dump has them
-abbrev pub may_have_called : StackValue → ℕ → Bool
-may_have_called s call = is_past_headers s.modules call
-    && (may_be_run s.infos call && may_end_call s.cpu s.memory call)
+-- whether the last byte of a call may stand at an address: where the memory may be run, and by the
+-- bytes there, if the dump has them
+abbrev pub may_hold_call : StackValue → ℕ → Bool
+may_hold_call s call = may_be_run s.infos call && may_end_call s.cpu s.memory call
 
--- the frame that an address may be the return address of
-abbrev pub candidate_by : StackValue → ℕ → ℕ → Option StackFrame
-candidate_by s after address = option_and_then
-    (λ call. if may_have_called s call
+-- the candidate of the word at an address: the frame that it may be the return address of, if a call
+-- may end before that, past the headers of a kept module. None where no address lies after the word
+abbrev pub candidate_at : StackValue → ℕ → ℕ → Option StackFrame
+candidate_at s size address = option_and_then (λ after. option_and_then
+    (λ return_address. option_and_then
+    (λ call. if is_past_headers s.modules call && may_hold_call s call
     then Some (record {
-      instruction = address;
+      instruction = return_address;
       stack_pointer = after;
       frame_pointer = None;
       trust = Scan;
     })
-    else None) (call_site s.cpu address)
-
--- the candidate of the word at an address. None where no address lies after it
-abbrev pub candidate_at : StackValue → ℕ → ℕ → Option StackFrame
-candidate_at s size address = option_and_then
-    (λ after. option_and_then (candidate_by s after) (return_at s address))
+    else None) (call_site s.cpu return_address)) (return_at s address))
     (address_after s.width address size)
 
 -- the same, where the width of an address is known
@@ -223,11 +204,8 @@ words_between s from until =
 
 -- the address of a frame's record, where its caller is by that
 abbrev pub record_by : FrameTrust → StackFrame → Option ℕ
-record_by Context f = None
-record_by Cfi f = None
 record_by FramePointer f = record_of f
-record_by Scan f = None
-record_by Link f = None
+record_by _ f = None
 
 -- the words of the first frame of a walk below its record, where its caller is by that: a function
 -- without a record of its own has the frame pointer of a caller further out, and the return
@@ -244,60 +222,47 @@ words_above s frames = option_map_or (λ last. words_from s last.stack_pointer)
 
 -- ---- the candidate of the link register
 
--- whether the last byte of a call may stand at an address that no word of the stack gives: in a kept
--- module, where the memory may be run, and by the bytes there, if the dump has them
-abbrev pub may_have_linked : StackValue → ℕ → Bool
-may_have_linked s call = is_code s.modules call
-    && (may_be_run s.infos call && may_end_call s.cpu s.memory call)
+-- whether a frame is found by rules, which say where the return address of a frame is
+abbrev pub is_by_rules : FrameTrust → Bool
+is_by_rules Cfi = true
+is_by_rules _ = false
 
--- the frame that the first frame of a walk may return to, where its return address is in the link
--- register. It has the pointers of the first one: its stack pointer is that or a higher one
-abbrev pub link_frame : StackValue → ℕ → StackFrame → Option StackFrame
-link_frame s address first = option_and_then
-    (λ call. if may_have_linked s call
+-- whether a walk lacks the frame with a return address after its first frame: the caller of that, if
+-- there is one, isn't found by rules, and has another return address
+abbrev pub lacks : List StackFrame → ℕ → Bool
+lacks frames address = option_map_or
+    (λ caller. not (is_by_rules caller.trust) && not (caller.instruction == address))
+    (slice_get frames 1) true
+
+-- the candidate of the link register of a walk's context, if it has one: the frame that the first one
+-- may return to, where a call in a kept module may end before the return address, which the walk
+-- lacks. It has the pointers of the first one: its stack pointer is that or a higher one
+unfoldable pub link_candidate : StackValue → Option ℕ → List StackFrame → Option StackFrame
+link_candidate s link frames = option_and_then
+    (λ word. let address = unsigned s.code_bits word in option_and_then
+    (λ first. option_and_then
+    (λ call. if lacks frames address && (is_code s.modules call && may_hold_call s call)
     then Some (record {
       instruction = address;
       stack_pointer = first.stack_pointer;
       frame_pointer = first.frame_pointer;
       trust = Link;
     })
-    else None) (call_site s.cpu address)
-
--- whether a frame is found by rules, which say where the return address of a frame is
-abbrev pub is_by_rules : FrameTrust → Bool
-is_by_rules Cfi = true
-is_by_rules _ = false
-
--- whether a walk lacks the frame with a return address before the caller of its first frame: that
--- caller isn't found by rules, and has another return address
-abbrev pub lacks_before : ℕ → StackFrame → Bool
-lacks_before address caller =
-    not (is_by_rules caller.trust) && not (caller.instruction == address)
-
--- whether a walk lacks the frame with a return address after its first frame
-abbrev pub lacks : List StackFrame → ℕ → Bool
-lacks frames address = option_map_or (lacks_before address) (slice_get frames 1) true
-
--- the candidate of the link register, by its address
-abbrev pub link_candidate_at : StackValue → List StackFrame → ℕ → Option StackFrame
-link_candidate_at s frames address = if lacks frames address
-    then option_and_then (link_frame s address) (slice_get frames 0) else None
-
--- the candidate of the link register of a walk's context, if it has one
-unfoldable pub link_candidate : StackValue → Option ℕ → List StackFrame → Option StackFrame
-link_candidate s link frames =
-    option_and_then (λ word. link_candidate_at s frames (unsigned s.code_bits word)) link
+    else None) (call_site s.cpu address)) (slice_get frames 0)) link
 
 -- ---- all candidates
 
--- whether a frame has another return address
-abbrev pub is_other : StackFrame → StackFrame → Bool
-is_other f g = not (f.instruction == g.instruction)
+-- whether a frame of a list has this return address
+abbrev pub has_word : List StackFrame → ℕ → Bool
+has_word frames word = list_any (λ f. f.instruction == word) frames
+
+-- frames and another one, if none of them has its return address
+abbrev pub with_other : List StackFrame → StackFrame → List StackFrame
+with_other frames f = if has_word frames f.instruction then frames else frames ++ f ∷ []
 
 -- of frames with one return address the first
 abbrev pub firsts : List StackFrame → List StackFrame
-firsts [] = []
-firsts (f ∷ fs) = f ∷ filter (is_other f) (firsts fs)
+firsts frames = fold with_other [] frames
 
 -- the candidates of a walk with this link register and these frames, each return address once and at
 -- most so many: that of the link register, those of the words of the first frame below its record,
@@ -311,7 +276,8 @@ scan s link frames limit = take limit (firsts ((cons_option (link_candidate s li
 -- the frames of a context: its own, its callers, and the candidates of these, at most so many
 pub record AreFrames (s : StackValue) (c : MinidumpContext) (limit : ℕ)
     (frames : List StackFrame) : Type 0 where
-  pub walk : List StackFrame
+  pub callers : List StackFrame
   pub last : StackFrame
-  pub is_walk : IsWalk s (context_frame c) walk last
-  pub whole : frames ≡ walk ++ scan s (link_in c) walk limit
+  pub are_callers : AreCallers (caller_of s) (context_frame c) callers last
+  pub whole : frames
+      ≡ (context_frame c ∷ callers) ++ scan s (link_in c) (context_frame c ∷ callers) limit

@@ -11,8 +11,7 @@ use Rattle.minidump.specs.Below.MemoryLists.UnifiedInfo.{InfoRegion, range_of_in
 use Rattle.minidump.specs.Below.MemoryLists.UnifiedInfo.{region_is_executable}
 use Rattle.minidump.specs.Below.Modules.Module.{ModuleValue, range_of_module}
 use Rattle.stack_walk.specs.declared.frame.FrameTrust.{FrameTrust}
-use Rattle.stack_walk.specs.declared.frame.FrameTrust.TheVariants.{Context, Cfi, FramePointer, Scan}
-use Rattle.stack_walk.specs.declared.frame.FrameTrust.TheVariants.{Link}
+use Rattle.stack_walk.specs.declared.frame.FrameTrust.TheVariants.{Context}
 use Rattle.stack_walk.specs.declared.frame.StackFrame.{StackFrame}
 
 -- where a return address returns to: on ARM of 32 bits its bit 0 only says that the code there is Thumb
@@ -30,10 +29,7 @@ call_site processor address = if nat_le 1 (returns_to processor address)
 -- call
 abbrev lookup_by : Cpu → FrameTrust → ℕ → Option ℕ
 lookup_by processor Context address = Some address
-lookup_by processor Cfi address = call_site processor address
-lookup_by processor FramePointer address = call_site processor address
-lookup_by processor Scan address = call_site processor address
-lookup_by processor Link address = call_site processor address
+lookup_by processor _ address = call_site processor address
 
 -- the same of a frame
 abbrev pub lookup_address : Cpu → StackFrame → Option ℕ

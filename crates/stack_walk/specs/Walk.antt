@@ -1,38 +1,16 @@
 -- The walk of a context as a function of its stack.
-use Rattle.std.specs.Prelude.{ℕ, ◌==◌, Bool, false, List, [], ◌∷◌, ◌++◌, Option, None, length}
-use Rattle.std.specs.Prelude.{if◌then◌else◌}
-use Rattle.std.specs.List.{range_with_len}
-use Rattle.std.specs.Option.{option_map_or}
+use Rattle.std.specs.Prelude.{ℕ, ◌/◌, List, ◌∷◌, ◌++◌, length}
 use Rattle.minidump.specs.declared.MinidumpContext.{MinidumpContext}
-use Rattle.minidump.specs.Below.MemoryLists.Unified.{UnifiedRegion}
 use Rattle.stack_walk.specs.declared.end.WalkEnd.{WalkEnd}
 use Rattle.stack_walk.specs.declared.frame.StackFrame.{StackFrame}
 use Rattle.stack_walk.specs.declared.walk.Walk.{Walk}
-use Rattle.stack_walk.specs.Climb.{callers_at, outermost}
-use Rattle.stack_walk.specs.Frames.{StackValue, caller_of, context_frame, link_in, record_of}
-use Rattle.stack_walk.specs.Frames.{scan}
+use Rattle.stack_walk.specs.Climb.{callers_of, outermost}
+use Rattle.stack_walk.specs.Frames.{StackValue, caller_of, context_frame, link_in, scan, stack_bytes}
 use Rattle.stack_walk.specs.WalkEnd.{walk_end}
 
--- whether the record of a frame stands at this address
-abbrev pub points_to : StackFrame → ℕ → Bool
-points_to f address = option_map_or (λ at. at == address) (record_of f) false
-
--- the caller of a frame, where the record at an address leads to it
-abbrev pub caller_here : StackValue → StackFrame → ℕ → Option StackFrame
-caller_here s f address = if points_to f address then caller_of s f else None
-
--- the addresses of a region, ascending
-abbrev pub addresses_of : UnifiedRegion → List ℕ
-addresses_of region = range_with_len region.base_address (length region.bytes)
-
--- those of a stack
-abbrev pub stack_addresses : StackValue → List ℕ
-stack_addresses s = option_map_or addresses_of s.region []
-
--- the callers of a frame, the innermost first: those to which records at the addresses of the stack
--- lead
+-- the callers of a frame, the innermost first. Each takes eight bytes of the stack at least
 abbrev pub callers_in : StackValue → StackFrame → List StackFrame
-callers_in s f = callers_at (caller_here s) f (stack_addresses s)
+callers_in s = callers_of (caller_of s) (length (stack_bytes s) / 8)
 
 -- a walk: the frames by frame pointers, the candidates, and why the last of the frames has no
 -- caller

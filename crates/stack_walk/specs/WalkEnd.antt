@@ -23,11 +23,8 @@ end_at s f size address =
     else (if nat_lt address f.stack_pointer then BelowStackPointer
     else (if has_record s size address then NoCode else NoRecord))
 
--- why a frame has none, where an address has so many bytes
-abbrev end_by : StackValue → StackFrame → ℕ → WalkEnd
-end_by s f size = option_map_or (end_at s f size) (record_of f) NoFramePointer
-
 -- why a frame has no caller: the first of these reasons that holds
 abbrev pub walk_end : StackValue → StackFrame → WalkEnd
 walk_end s f = if is_none s.region then NoMemory
-    else option_map_or (end_by s f) (pointer_bytes s.width) UnknownWidth
+    else option_map_or (λ size. option_map_or (end_at s f size) (record_of f) NoFramePointer)
+    (pointer_bytes s.width) UnknownWidth

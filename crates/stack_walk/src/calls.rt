@@ -1,12 +1,11 @@
-ghost use Rattle.std.specs.Prelude.{◌≡◌, ◌+◌, ◌-◌};
+ghost use Rattle.std.specs.Prelude.{◌≡◌};
 ghost use Rattle.std.specs.Option.{option_copied};
-ghost use Rattle.minidump.specs.Below.MemoryLists.Unified.{unified_list, unified_region};
-ghost use Rattle.stack_walk.specs.Calls.{bytes_before, bytes_until, calls_by, ends_arm64_call};
-ghost use Rattle.stack_walk.specs.Calls.{ends_call, ends_x86_call, may_end_call, operand_length};
-ghost use Rattle.stack_walk.specs.Calls.{operand_length_with_sib};
+ghost use Rattle.minidump.specs.Below.MemoryLists.Unified.{unified_list};
+ghost use Rattle.stack_walk.specs.Calls.{bytes_until, calls_by, ends_arm64_call, ends_call};
+ghost use Rattle.stack_walk.specs.Calls.{ends_x86_call, may_end_call, operand_length};
 
+use minidump::UnifiedMemoryList;
 use minidump::system_info::Cpu;
-use minidump::{UnifiedMemory, UnifiedMemoryList};
 
 // Tells whether a call ends with the byte at an address, by the dump's memory: also where that
 // doesn't have the bytes.
@@ -24,14 +23,6 @@ fn bytes_until<'l>(memory: &'l UnifiedMemoryList<'_>, address: u64) -> Option<&'
     ensures { option_copied result ≡ bytes_until (unified_list memory.now) address }
 {
     let region = memory.memory_at_address(address)?;
-    bytes_before(region, address)
-}
-
-// Returns the seven bytes of a region of which the last is at an address, if it has them.
-fn bytes_before<'l>(region: UnifiedMemory<'l, '_>, address: u64) -> Option<&'l [u8]>
-    ensures { option_copied result ≡ bytes_before (unified_region region.entry)
-        (address - (unified_region region.entry).base_address) }
-{
     let bytes = region.bytes();
     let offset = address.checked_sub(region.base_address())?;
     if offset >= 6 && offset < bytes.len() as u64 {
@@ -87,29 +78,15 @@ fn calls_by(length: u8, first: u8, modrm: u8, sib: u8) -> bool
 fn operand_length(mode: u8, register: u8, base: u8) -> u8
     ensures { result ≡ operand_length mode register base }
 {
-    if mode == 3 {
-        1
-    } else if register == 4 {
-        operand_length_with_sib(mode, base)
-    } else if mode == 1 {
-        2
-    } else if mode == 2 || register == 5 {
-        5
-    } else {
-        1
-    }
-}
-
-// Returns the same of an operand with a SIB byte.
-fn operand_length_with_sib(mode: u8, base: u8) -> u8
-    ensures { result ≡ operand_length_with_sib mode base }
-{
-    if mode == 1 {
-        3
-    } else if mode == 2 || base == 5 {
-        6
-    } else {
-        2
+    match (mode, register) {
+        (3, _) => 1,
+        (1, 4) => 3,
+        (2, 4) => 6,
+        (_, 4) if base == 5 => 6,
+        (_, 4) => 2,
+        (1, _) => 2,
+        (2, _) | (_, 5) => 5,
+        _ => 1,
     }
 }
 

@@ -1,27 +1,20 @@
 ghost use Rattle.std.specs.Prelude.{◌≡◌, Some};
 ghost use Rattle.minidump.specs.Below.MemoryLists.UnifiedInfo.{info_list, info_regions};
 ghost use Rattle.minidump.specs.Below.Modules.ModuleList.{module_list_of};
-ghost use Rattle.stack_walk.specs.Calls.{is_past_headers};
 ghost use Rattle.stack_walk.specs.Lookups.{call_site, is_code, may_be_run, module_offset_at};
-ghost use Rattle.stack_walk.specs.Lookups.{module_place, returns_to};
+ghost use Rattle.stack_walk.specs.Lookups.{module_place};
 
 use minidump::system_info::Cpu;
 use minidump::{MinidumpModuleList, Module, UnifiedMemoryInfoList};
 
-// Returns the address before the one that a return address returns to, which lies in the call.
+// Returns the address before the one that a return address returns to, which lies in the call. On
+// ARM that lacks bit 0 of the return address.
 pub(crate) fn call_site(cpu: Cpu, address: u64) -> Option<u64>
     ensures { result ≡ call_site cpu address }
 {
-    returns_to(cpu, address).checked_sub(1)
-}
-
-// Returns the address that a return address returns to, which on ARM lacks its bit 0.
-fn returns_to(cpu: Cpu, address: u64) -> u64
-    ensures { result ≡ returns_to cpu address }
-{
     match cpu {
-        Cpu::Arm => address - address % 2,
-        _ => address,
+        Cpu::Arm => (address - address % 2).checked_sub(1),
+        _ => address.checked_sub(1),
     }
 }
 
@@ -47,16 +40,6 @@ pub fn is_code(modules: &MinidumpModuleList, address: u64) -> bool
     ensures { result ≡ is_code (module_list_of modules.now) address }
 {
     modules.module_at_address(address).is_some()
-}
-
-// Tells whether a kept module contains an address past its first page.
-pub(crate) fn is_past_headers(modules: &MinidumpModuleList, address: u64) -> bool
-    ensures { result ≡ is_past_headers (module_list_of modules.now) address }
-{
-    match offset_at(modules, address) {
-        Some(offset) => offset >= 4096,
-        None => false,
-    }
 }
 
 // Tells whether the memory at an address may be run, as far as is known of it.

@@ -1,21 +1,16 @@
 //! The candidates of a walk.
-ghost use Rattle.std.specs.Prelude.{◌≡◌, ◌+◌, ◌++◌, ◌∷◌, [], ℕ, List, true, cond, if◌then◌else◌};
-ghost use Rattle.std.specs.Prelude.{IfOk, OnOk};
-ghost use Rattle.std.specs.BTreeMap.{is_at};
-ghost use Rattle.std.specs.BTreeSet.{contains};
-ghost use Rattle.std.specs.List.{cons_option};
-ghost use Rattle.std.specs.Ordering.{nat_cmp};
-ghost use Rattle.stack_walk.specs.declared.frame.StackFrame.{StackFrame};
-ghost use Rattle.stack_walk.specs.Found.{AreFound};
-ghost use Rattle.stack_walk.specs.Frames.{address_candidate, candidate_at, may_have_called};
-ghost use Rattle.stack_walk.specs.Frames.{record_by, scan, stack_of, word_candidate};
+ghost use Rattle.std.specs.Prelude.{◌≡◌, ◌+◌, [], IfOk, OnOk};
+ghost use Rattle.std.specs.List.{cons_option, fold};
+ghost use Rattle.stack_walk.specs.Found.{IsSeen, up_to};
+ghost use Rattle.stack_walk.specs.Frames.{address_candidate, candidate_at, may_hold_call};
+ghost use Rattle.stack_walk.specs.Frames.{scan, stack_of, word_candidate};
 ghost use Rattle.stack_walk.specs.Frames.{word_candidates, words_above, words_below};
 ghost use Rattle.stack_walk.specs.Frames.{words_between, words_from};
 
 use crate::addresses::address_after;
 use crate::calls::may_end_call;
 use crate::link::link_candidate;
-use crate::lookups::{call_site, is_past_headers, may_be_run};
+use crate::lookups::{call_site, may_be_run, offset_at};
 use crate::stack::record_of;
 use crate::{FrameTrust, Stack, StackFrame};
 use minidump::system_info::PointerWidth;
@@ -51,7 +46,7 @@ impl Stack<'_, '_> {
             frames: Vec::new(alloc),
             seen: BTreeSet::new(alloc),
         };
-        found.add_link(link_candidate(self, link, frames), limit)?;
+        found.add(link_candidate(self, link, frames), limit)?;
         found.add_words(self, words_below(self, frames), limit)?;
         found.add_words(self, words_above(self, frames), limit)?;
         Ok(found.frames)
@@ -66,20 +61,6 @@ struct Found {
 }
 
 impl Found {
-    // Adds the candidate of the link register, if there is one, up to a limit of all.
-    fn add_link(&mut self, candidate: Option<StackFrame>, limit: usize) -> Result<(), AllocError>
-        ensures { OnOk result ((before : List StackFrame) → AreFound limit before self.old
-            → AreFound limit (before ++ cons_option candidate []) self.new) }
-    {
-        if self.frames.len() >= limit {
-            return Ok(());
-        }
-        if let Some(candidate) = candidate {
-            self.add(candidate)?;
-        }
-        Ok(())
-    }
-
     // Adds the candidates of aligned words, by the number of the first and how many there are, up
     // to a limit of all.
     fn add_words(
@@ -88,32 +69,30 @@ impl Found {
         words: (u64, usize),
         limit: usize,
     ) -> Result<(), AllocError>
-        ensures { OnOk result ((before : List StackFrame) → AreFound limit before self.old
-            → AreFound limit (before ++ word_candidates (stack_of stack.now) words) self.new) }
+        ensures { OnOk result (IsSeen self.old → IsSeen self.new × (self.new.frames.items
+            ≡ fold (up_to limit) self.old.frames.items
+            (word_candidates (stack_of stack.now) words))) }
     {
         let (first, count) = words;
         for index in 0..count {
             if self.frames.len() >= limit {
                 return Ok(());
             }
-            if let Some(candidate) = word_candidate(stack, first, index) {
-                self.add(candidate)?;
-            }
+            self.add(word_candidate(stack, first, index), limit)?;
         }
         Ok(())
     }
 
-    // Adds a candidate, if none with its return address is there.
-    fn add(&mut self, candidate: StackFrame) -> Result<(), AllocError>
-        ensures frames { OnOk result (self.new.frames.items ≡ self.old.frames.items
-            ++ (if contains nat_cmp self.old.seen candidate.instruction then []
-            else candidate ∷ [])) }
-        ensures seen { OnOk result ((word : ℕ) → contains nat_cmp self.new.seen word
-            ≡ cond (is_at (nat_cmp candidate.instruction) word) true
-            (contains nat_cmp self.old.seen word)) }
+    // Adds a candidate, if there is one, none with its return address is there, and fewer than a
+    // limit are.
+    fn add(&mut self, candidate: Option<StackFrame>, limit: usize) -> Result<(), AllocError>
+        ensures { OnOk result (IsSeen self.old → IsSeen self.new × (self.new.frames.items
+            ≡ fold (up_to limit) self.old.frames.items (cons_option candidate []))) }
     {
-        if self.seen.insert(candidate.instruction)? {
-            self.frames.push(candidate)?;
+        if let Some(candidate) = candidate {
+            if self.frames.len() < limit && self.seen.insert(candidate.instruction)? {
+                self.frames.push(candidate)?;
+            }
         }
         Ok(())
     }
@@ -128,21 +107,13 @@ fn words_below(stack: &Stack<'_, '_>, frames: &[StackFrame]) -> (u64, usize)
     ensures { result ≡ words_below (stack_of stack.now) frames.now }
 {
     match frames {
-        [first, caller, ..] => match record_by(caller.trust, first) {
-            Some(record) => words_between(stack, first.stack_pointer, record),
-            None => (0, 0),
+        [first, caller, ..] => match (caller.trust, record_of(first)) {
+            (FrameTrust::FramePointer, Some(record)) => {
+                words_between(stack, first.stack_pointer, record)
+            }
+            _ => (0, 0),
         },
         _ => (0, 0),
-    }
-}
-
-// Returns the address of a frame's record, if its caller is by that.
-fn record_by(trust: FrameTrust, frame: &StackFrame) -> Option<u64>
-    ensures { result ≡ record_by trust frame.now }
-{
-    match trust {
-        FrameTrust::FramePointer => record_of(frame),
-        FrameTrust::Context | FrameTrust::Cfi | FrameTrust::Scan | FrameTrust::Link => None,
     }
 }
 
@@ -206,7 +177,11 @@ fn candidate_of(stack: &Stack<'_, '_>, size: u64, address: u64) -> Option<StackF
     let stack_pointer = address_after(stack.width, address, size)?;
     let instruction = stack.return_at(address)?;
     let call = call_site(stack.cpu, instruction)?;
-    if may_have_called(stack, call) {
+    let is_in_code = match offset_at(stack.modules, call) {
+        Some(offset) => offset >= 4096,
+        None => false,
+    };
+    if is_in_code && may_hold_call(stack, call) {
         Some(StackFrame {
             instruction,
             stack_pointer,
@@ -218,11 +193,10 @@ fn candidate_of(stack: &Stack<'_, '_>, size: u64, address: u64) -> Option<StackF
     }
 }
 
-// Tells whether the last byte of a call may stand at an address.
-fn may_have_called(stack: &Stack<'_, '_>, call: u64) -> bool
-    ensures { result ≡ may_have_called (stack_of stack.now) call }
+// Tells whether the last byte of a call may stand at an address: whether the memory there may be
+// run, and a call ends there, as far as is known of both.
+pub(crate) fn may_hold_call(stack: &Stack<'_, '_>, call: u64) -> bool
+    ensures { result ≡ may_hold_call (stack_of stack.now) call }
 {
-    is_past_headers(stack.modules, call)
-        && may_be_run(stack.infos, call)
-        && may_end_call(stack.cpu, stack.code, call)
+    may_be_run(stack.infos, call) && may_end_call(stack.cpu, stack.code, call)
 }

@@ -139,13 +139,6 @@ fn stack_memory<'l, 'a>(
     }
 }
 
-// Returns the stack pointer of a context.
-fn stack_pointer_of(context: &MinidumpContext) -> u64
-    ensures { result ≡ stack_pointer_in context.now.raw }
-{
-    context.get_stack_pointer()
-}
-
 /// Walks the stack of a thread by a context, which need not be the one that [`walk_thread`] takes:
 /// its own stack, if that holds the stack pointer, else the dump's region that does, else its own
 /// all the same. The only error is `OutOfMemory`.
@@ -174,7 +167,7 @@ impl<'l, 'a> Process<'l, 'a> {
         ensures { walked.stack_of result ≡ stack_in (process_of self.now) (thread_stack
             (process_of self.now).memory (thread_of thread.now) (stack_pointer_in context.now.raw)) }
     {
-        self.stack_on(stack_memory(self.memory, thread, stack_pointer_of(context)))
+        self.stack_on(stack_memory(self.memory, thread, context.get_stack_pointer()))
     }
 
     /// Returns the stack that lies in a region of memory, or that of no memory.

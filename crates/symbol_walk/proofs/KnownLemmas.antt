@@ -1,11 +1,10 @@
 -- Registers whose values are known: one after another, and by a test of what they are.
-use Rattle.std.proofs.Common.{◌≡◌, ◌∙◌, ◌<◌, ◌+◌, ◌++◌, [], ℕ, List, Option, Some, None, Bool, ap, get_or, length, map, refl, take}
+use Rattle.std.proofs.Common.{◌≡◌, ◌<◌, ◌+◌, ◌++◌, [], ◌∷◌, ℕ, List, Option, Bool, arith, get_or, length, map, refl, take}
 use Rattle.std.specs.List.{cons_option, find}
 use Rattle.std.specs.Option.{option_and_then, option_map}
 use Rattle.std.specs.Str.{bytes_eq}
 use Rattle.std.proofs.lemmas.List.{map_more}
 use Rattle.std.proofs.lemmas.List.Elements.{filter_map-append}
-use Rattle.breakpad_symbols.proofs.NumberedLemmas.{find-map}
 use Rattle.symbol_walk.specs.declared.registers.KnownRegister.{KnownRegister}
 use Rattle.symbol_walk.specs.declared.registers.Register.{Register}
 use Rattle.symbol_walk.specs.Registers.{RegisterRow, is_frame_pointer, is_stack_pointer, known_by, known_frame_pointer, known_of, known_stack_pointer}
@@ -22,27 +21,16 @@ module _ (value : RegisterRow → Option ℕ) where
 
 -- ---- by a test
 
-value_of_view : (o : Option KnownRegister) → option_map (λ (k : List ℕ × ℕ). k.1) (option_map known_of o) ≡ option_map (λ (k : KnownRegister). k.value) o
-value_of_view None = refl
-value_of_view (Some k) = refl
-
 -- the value by the name
 pub known_found : (ks : List KnownRegister) (name : List ℕ)
     → known_value (map known_of ks) name ≡ option_map (λ (k : KnownRegister). k.value) (find (λ (k : KnownRegister). bytes_eq k.name.now name) ks)
-known_found ks name =
-    ap (option_map (λ (k : List ℕ × ℕ). k.1)) (find-map known_of (λ (k : List ℕ × ℕ). bytes_eq k.0 name) ks)
-    ∙ value_of_view (find (λ (k : KnownRegister). bytes_eq k.name.now name) ks)
-
-row_value : (known : List (List ℕ × ℕ)) (o : Option Register) → option_and_then (λ (r : RegisterRow). known_value known r.name) (option_map row_of o)
-    ≡ option_and_then (λ (r : Register). known_value known r.name.now) o
-row_value known None = refl
-row_value known (Some r) = refl
+known_found [] name = refl
+known_found (k ∷ ks) name = grind (arith, known_found ks name)
 
 found_where : (test : RegisterRow → Bool) (rs : List Register) (known : List (List ℕ × ℕ))
     → value_where test (map row_of rs) known ≡ option_and_then (λ (r : Register). known_value known r.name.now) (find (λ (r : Register). test (row_of r)) rs)
-found_where test rs known =
-    ap (option_and_then (λ (r : RegisterRow). known_value known r.name)) (find-map row_of test rs)
-    ∙ row_value known (find (λ (r : Register). test (row_of r)) rs)
+found_where test [] known = refl
+found_where test (r ∷ rs) known = grind (arith, found_where test rs known)
 
 -- the value by the label
 pub label_found : (rs : List Register) (known : List (List ℕ × ℕ)) (label : List ℕ)

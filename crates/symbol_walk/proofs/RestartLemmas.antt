@@ -1,5 +1,5 @@
 -- The first candidate from which a walk goes on, a word at a time.
-use Rattle.std.proofs.Common.{◌≡◌, ◌∙◌, ℕ, suc, ◌+◌, ◌-◌, ◌<◌, List, Bool, true, false, cond, Option, Some, None, refl, ap, arith}
+use Rattle.std.proofs.Common.{◌≡◌, ℕ, suc, ◌+◌, ◌-◌, ◌<◌, List, Option, Some, None, refl, arith}
 use Rattle.std.specs.Prelude.{if◌then◌else◌}
 use Rattle.std.specs.List.{cons_option, find}
 use Rattle.std.specs.Option.{option_and_then}
@@ -12,36 +12,22 @@ use Rattle.symbol_walk.specs.Unwinder.{UnwinderValue}
 abbrev pub found_from : UnwinderValue → StackFrame → ℕ → ℕ → Option StackFrame
 found_from u f a n = find (restarts u f) (word_candidates u.stack (a, n))
 
--- the first word, and those after it
-next : (u : UnwinderValue) (f : StackFrame) (first i n : ℕ) → i < n
-    → found_from u f (first + i) (n - i)
-    ≡ find (restarts u f) (cons_option (word_candidate u.stack (first + i)) (word_candidates u.stack (first + (i + 1), n - (i + 1))))
-next u f first i n within =
-    let more : n - i ≡ suc (n - (i + 1)) = omega (arith, within) in
-    let after : first + i + 1 ≡ first + (i + 1) = omega arith in
-    ap (λ m. found_from u f (first + i) m) more
-    ∙ ap (λ a. find (restarts u f) (cons_option (word_candidate u.stack (first + i)) (word_candidates u.stack (a, n - (i + 1))))) after
-
-skips : (u : UnwinderValue) (f : StackFrame) (o : Option StackFrame) (rest : List StackFrame)
-    → option_and_then (λ candidate. if restarts u f candidate then Some candidate else None) o ≡ None
-    → find (restarts u f) (cons_option o rest) ≡ find (restarts u f) rest
-skips u f None rest e = refl
-skips u f (Some c) rest e = by (restarts u f c) e
+-- the walk doesn't go on from the first word
+skips : (u : UnwinderValue) (f : StackFrame) (a n : ℕ) → restart_at u f a ≡ None → found_from u f a (suc n) ≡ found_from u f (a + 1) n
+skips u f a n none = by (word_candidate u.stack a) (word_candidates u.stack (a + 1, n)) none
   where
-    by : (b : Bool) → (if b then Some c else None) ≡ None → cond b (Some c) (find (restarts u f) rest) ≡ find (restarts u f) rest
-    by true e = cc
-    by false e = refl
+    by : (o : Option StackFrame) (rest : List StackFrame) → option_and_then (λ candidate. if restarts u f candidate then Some candidate else None) o ≡ None
+        → find (restarts u f) (cons_option o rest) ≡ find (restarts u f) rest
+    by None rest e = refl
+    by (Some c) rest e = grind arith
 
--- the walk doesn't go on from a word
 pub found_later : (u : UnwinderValue) (f : StackFrame) (first i n : ℕ) → i < n → restart_at u f (first + i) ≡ None
     → found_from u f (first + i) (n - i) ≡ found_from u f (first + (i + 1)) (n - (i + 1))
 found_later u f first i n within none =
-    next u f first i n within
-    ∙ skips u f (word_candidate u.stack (first + i)) (word_candidates u.stack (first + (i + 1), n - (i + 1))) none
+    let more : n - i ≡ suc (n - (i + 1)) = omega arith in
+    let after : first + (i + 1) ≡ first + i + 1 = omega arith in
+    rw (more, after) (skips u f (first + i) (n - (i + 1)) none)
 
 -- all words
 pub found_first : (u : UnwinderValue) (f : StackFrame) (first n : ℕ) → found_from u f (first + 0) (n - 0) ≡ found_from u f first n
-found_first u f first n =
-    let start : first + 0 ≡ first = omega arith in
-    let all : n - 0 ≡ n = omega arith in
-    ap (λ a. found_from u f a (n - 0)) start ∙ ap (λ m. found_from u f first m) all
+found_first u f first n = (let start : first + 0 ≡ first = omega arith in let all : n - 0 ≡ n = omega arith in rw (start, all))

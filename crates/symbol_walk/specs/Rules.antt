@@ -71,20 +71,17 @@ rules_of r = record {
   code_bits = (stack_of r.state.stack.now).code_bits;
 }
 
--- those that the symbols of the module have for an address
-abbrev pub rules_by : UnwinderValue → FrameValue → ℕ → ℕ → Option RulesValue
-rules_by u f bits address = option_and_then
+-- the rules of a frame: those that the symbols of the module have for the address by which it is
+-- looked up
+unfoldable pub rules_at : UnwinderValue → FrameValue → Option RulesValue
+rules_at u f = option_and_then (λ bits. option_and_then (λ address. option_and_then
     (λ p. option_map (λ cfi. record {
       cfi = cfi;
       offset = p.1;
       known = f.registers;
       state = state_in u.stack u.registers f.registers bits;
       code_bits = u.stack.code_bits;
-    }) (cfi_at p.0 p.1)) (symbols_at u.stack.modules u.symbols address)
-
--- the rules of a frame: those of the address by which it is looked up
-unfoldable pub rules_at : UnwinderValue → FrameValue → Option RulesValue
-rules_at u f = option_and_then (λ bits. option_and_then (rules_by u f bits)
+    }) (cfi_at p.0 p.1)) (symbols_at u.stack.modules u.symbols address))
     (lookup_address u.stack.cpu f.frame)) (address_bits u.stack.width)
 
 -- ---- where they return to
@@ -138,15 +135,12 @@ abbrev pub is_on_stack : StackValue → ℕ → Bool
 is_on_stack s address = option_map_or (λ r. nat_le r.base_address address
     && nat_le address (r.base_address + length r.bytes)) s.region false
 
--- whether an address is above the stack pointer of a frame. That of a context may be it: a function
--- that has pushed nothing, with its return address in a register, has its caller's
-abbrev pub is_above : StackFrame → ℕ → Bool
-is_above f address = if is_of_context f.trust then nat_le f.stack_pointer address
-    else nat_lt f.stack_pointer address
-
--- whether the stack of a frame goes on at an address, as the stack pointer of its caller
+-- whether the stack of a frame goes on at an address, as the stack pointer of its caller: it is above
+-- that of the frame. That of a context may be it: a function that has pushed nothing, with its return
+-- address in a register, has its caller's
 unfoldable pub goes_on : StackValue → StackFrame → ℕ → Bool
-goes_on s f address = is_on_stack s address && is_above f address
+goes_on s f address = is_on_stack s address && (if is_of_context f.trust
+    then nat_le f.stack_pointer address else nat_lt f.stack_pointer address)
 
 -- the caller with these registers, if the stack goes on at its stack pointer
 abbrev pub caller_with : UnwinderValue → StackFrame → Return → List (List ℕ × ℕ) → Option FrameValue

@@ -5,8 +5,7 @@ use Rattle.std.specs.List.{find}
 use Rattle.std.specs.Option.{option_and_then, option_map_or}
 use Rattle.minidump.specs.Below.System.Cpu.{pointer_bytes}
 use Rattle.stack_walk.specs.declared.frame.FrameTrust.{FrameTrust}
-use Rattle.stack_walk.specs.declared.frame.FrameTrust.TheVariants.{Context, Cfi, FramePointer, Scan}
-use Rattle.stack_walk.specs.declared.frame.FrameTrust.TheVariants.{Link}
+use Rattle.stack_walk.specs.declared.frame.FrameTrust.TheVariants.{Context}
 use Rattle.stack_walk.specs.declared.frame.StackFrame.{StackFrame}
 use Rattle.stack_walk.specs.Frames.{word_candidate, word_candidates}
 use Rattle.stack_walk.specs.Lookups.{lookup_address}
@@ -17,10 +16,7 @@ use Rattle.symbol_walk.specs.Unwinder.{UnwinderValue}
 -- how many words from the stack pointer of a frame on are looked at
 abbrev pub scanned_words : FrameTrust → ℕ
 scanned_words Context = 40
-scanned_words Cfi = 30
-scanned_words FramePointer = 30
-scanned_words Scan = 30
-scanned_words Link = 30
+scanned_words _ = 30
 
 -- whether a function of the symbols has an address
 unfoldable pub in_function : UnwinderValue → ℕ → Bool

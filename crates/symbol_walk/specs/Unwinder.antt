@@ -11,7 +11,6 @@ use Rattle.symbol_walk.specs.declared.registers.RegisterRole.{RegisterRole}
 use Rattle.symbol_walk.specs.declared.registers.RegisterRole.TheVariants.{InstructionPointer}
 use Rattle.symbol_walk.specs.declared.registers.RegisterRole.TheVariants.{StackPointer}
 use Rattle.symbol_walk.specs.declared.registers.RegisterRole.TheVariants.{FramePointer}
-use Rattle.symbol_walk.specs.declared.registers.RegisterRole.TheVariants.{Saved, Scratch}
 use Rattle.symbol_walk.specs.declared.unwinder.Unwinder.{Unwinder}
 use Rattle.symbol_walk.specs.Registers.{RegisterRow, known_by, known_of, register_table, row_of}
 
@@ -52,8 +51,7 @@ abbrev pub pointer_value : StackFrame → RegisterRole → Option ℕ
 pointer_value f InstructionPointer = Some f.instruction
 pointer_value f StackPointer = Some f.stack_pointer
 pointer_value f FramePointer = f.frame_pointer
-pointer_value f Saved = None
-pointer_value f Scratch = None
+pointer_value f _ = None
 
 -- a frame of which its pointers alone are known
 abbrev pub pointer_frame : UnwinderValue → StackFrame → FrameValue

@@ -1,13 +1,11 @@
 -- The walk of a context by the symbols of its process, as a function of its stack.
-use Rattle.std.specs.Prelude.{ℕ, ◌+◌, ◌==◌, List, [], ◌∷◌, length, map, is_some, Option, Some, None}
+use Rattle.std.specs.Prelude.{ℕ, ◌+◌, List, ◌∷◌, length, map, is_some, Option, None}
 use Rattle.std.specs.Prelude.{if◌then◌else◌, unwrap_or}
-use Rattle.std.specs.List.{range_with_len}
-use Rattle.std.specs.Option.{option_and_then, option_map, option_map_or, option_or}
+use Rattle.std.specs.Option.{option_and_then, option_map, option_or}
 use Rattle.minidump.specs.declared.MinidumpContext.{MinidumpContext}
-use Rattle.minidump.specs.Below.MemoryLists.Unified.{UnifiedRegion}
 use Rattle.stack_walk.specs.declared.frame.StackFrame.{StackFrame}
-use Rattle.stack_walk.specs.Climb.{callers_at, outermost}
-use Rattle.stack_walk.specs.Frames.{StackValue, link_in, scan}
+use Rattle.stack_walk.specs.Climb.{callers_of, outermost}
+use Rattle.stack_walk.specs.Frames.{StackValue, link_in, scan, stack_bytes}
 use Rattle.stack_walk.specs.Frames.{caller_of as pointer_caller}
 use Rattle.stack_walk.specs.WalkEnd.{walk_end}
 use Rattle.breakpad_symbols.specs.SymbolFile.{SymbolsValue}
@@ -46,22 +44,10 @@ end_of u f = unwrap_or (end_by_rules u f) (Walk (walk_end u.stack f.frame))
 
 -- ---- the callers
 
--- the caller of a frame, where its stack pointer is an address
-abbrev pub caller_here : UnwinderValue → FrameValue → ℕ → Option FrameValue
-caller_here u f address = option_and_then (λ caller.
-    if caller.frame.stack_pointer == address then Some caller else None) (caller_of u f)
-
--- the addresses of a region and the one after it, ascending
-abbrev pub pointers_to : UnifiedRegion → List ℕ
-pointers_to region = range_with_len region.base_address (length region.bytes + 1)
-
--- those of a stack
-abbrev pub stack_pointers : StackValue → List ℕ
-stack_pointers s = option_map_or pointers_to s.region []
-
--- the callers of a frame, the innermost first: those whose stack pointers are among these
+-- the callers of a frame, the innermost first. Each has a stack pointer of its own: an address of the
+-- stack, or the one after it
 abbrev pub callers_in : UnwinderValue → FrameValue → List FrameValue
-callers_in u f = callers_at (caller_here u) f (stack_pointers u.stack)
+callers_in u = callers_of (caller_of u) (length (stack_bytes u.stack) + 1)
 
 -- ---- the walk
 

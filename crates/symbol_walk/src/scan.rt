@@ -1,7 +1,6 @@
 //! Where a walk starts again.
 ghost use Rattle.std.specs.Prelude.{◌≡◌, ◌+◌};
 ghost use Rattle.std.specs.List.{find};
-ghost use Rattle.minidump.specs.Below.System.Cpu.{pointer_bytes};
 ghost use Rattle.stack_walk.specs.Frames.{stack_of, word_candidate, word_candidates};
 ghost use Rattle.symbol_walk.specs.Scan.{restart_at, restart_of, restarts, scanned_words};
 ghost use Rattle.symbol_walk.specs.Unwinder.{unwinder_of};

@@ -1,10 +1,12 @@
 -- A caller more, or the end.
-use Rattle.std.proofs.Common.{◌∙◌, ◌++◌, ◌∷◌, ap, append_assoc, map, sym}
+use Rattle.std.proofs.Common.{◌∙◌, ◌++◌, [], ◌∷◌, ap, append_assoc, map, refl, sym}
 use Rattle.std.specs.Option.{option_map}
 use Rattle.std.proofs.lemmas.List.{map-append}
+use Rattle.stack_walk.specs.Climb.{outermost}
 use Rattle.symbol_walk.specs.Unwinder.{frame_of, unwinder_of}
+use Rattle.symbol_walk.specs.Walk.{callers_in}
 use Rattle.symbol_walk.proofs.ReachLemmas.{falls}
-use Rattle.symbol_walk.proofs.UpLemmas.{callers_done, callers_next}
+use Rattle.symbol_walk.proofs.UpLemmas.{are_callers, callers_are}
 use Rattle.symbol_walk.proofs.unwinder.Unwinder.climb.Goals as goal
 
 pub loop-last-smaller : goal.loop-last-smaller
@@ -14,8 +16,10 @@ loop-last-smaller c =
 
 pub loop-last-preserved : goal.loop-last-preserved
 loop-last-preserved c =
-    let next = callers_next (unwinder_of c.args.self.now) (frame_of c.loop-last.last) (frame_of c.in-Some.caller)
-    (sym c.in_ok-caller.ensures ∙ ap (option_map frame_of) c.in-Some.is) in
+    let u = unwinder_of c.args.self.now in
+    let g = frame_of c.in-Some.caller in
+    let next = callers_are u (frame_of c.loop-last.last) (g ∷ callers_in u g) (outermost g (callers_in u g))
+    (sym c.in_ok-caller.ensures ∙ ap (option_map frame_of) c.in-Some.is, are_callers u g) in
     record {
       frames = rw (c.in_ok-push.ensures.items, map-append, append_assoc, next.0) c.loop-last.invariant.frames;
       last = next.1 ∙ c.loop-last.invariant.last;
@@ -23,8 +27,9 @@ loop-last-preserved c =
 
 pub returns : goal.returns
 returns c =
-    let done = callers_done (unwinder_of c.args.self.now) (frame_of c.loop-last.last) (sym c.in_ok-caller.ensures ∙ ap (option_map frame_of) c.in_default.is) in
+    let last = frame_of c.loop-last.last in
+    let done = callers_are (unwinder_of c.args.self.now) last [] last (sym c.in_ok-caller.ensures ∙ ap (option_map frame_of) c.in_default.is, refl) in
     record {
-      frames = ap (λ callers. map frame_of c.loop-last.frames.items ++ (frame_of c.loop-last.last ∷ callers)) done.0 ∙ c.loop-last.invariant.frames;
+      frames = ap (λ callers. map frame_of c.loop-last.frames.items ++ (last ∷ callers)) done.0 ∙ c.loop-last.invariant.frames;
       last = done.1 ∙ c.loop-last.invariant.last;
     }
