@@ -1,50 +1,36 @@
 -- What comes after the last separator of a path.
-use Rattle.std.proofs.Common.{◌≡◌, ℕ, ◌+◌, ◌-◌, ◌<◌, ◌≤◌, arith, Bool, true, false, not, ◌||◌, drop, get_or, length, List, [], ◌∷◌, None, ap, refl, sym, ◌∙◌, inl, inr, true≢false}
-use Rattle.std.specs.Prelude.{◌==◌}
+use Rattle.std.proofs.Common.{◌≡◌, ℕ, ◌+◌, ◌-◌, ◌<◌, ◌≤◌, arith, Bool, true, false, not, drop, get_or, length, List, [], ◌∷◌, None, ap, refl, sym, ◌∙◌, inl, inr}
 use Rattle.std.specs.List.{after_last, suffix_len}
 use Rattle.std.specs.Char.{char_set_contains}
 use Rattle.std.specs.Str.{NoCharPasses}
 use Rattle.std.specs.Str.Pattern.{RFindsBy, SplitsAroundMatch}
-use Rattle.std.proofs.lemmas.Bool.{cases_lt, eq-eqb, eqb-true, ne_eqb}
+use Rattle.std.proofs.lemmas.Bool.{cases_lt, ne_eqb}
 use Rattle.std.proofs.lemmas.List.{get_or-drop, length-drop}
 use Rattle.std.proofs.lemmas.List.Sums.{suffix_len_is}
 use Rattle.std.proofs.lemmas.Str.{NoCharPasses-byte, len_utf8_ascii}
 
 abbrev pub is_separator : ℕ → Bool
-is_separator b = b == 0x2f || b == 0x5c
+is_separator = char_set_contains (0x2f ∷ 0x5c ∷ [])
+
+far : (c : ℕ) → 128 ≤ c → is_separator c ≡ false
+far c high = rw (ne_eqb 0x2f c (λ same. omega (arith, same, high)), ne_eqb 0x5c c (λ same. omega (arith, same, high))) refl
 
 -- no byte is a separator where no character is one
 no_separator : (xs : List ℕ) (k : ℕ) → NoCharPasses is_separator xs → k < length xs → is_separator (get_or xs k 0) ≡ false
 no_separator xs k none within = elim (cases_lt (get_or xs k 0) 128) [
   | inl low ↦ NoCharPasses-byte is_separator xs k none within low
-  | inr high ↦ rw (ne_eqb (get_or xs k 0) 0x2f (λ same. omega (arith, same, high)), ne_eqb (get_or xs k 0) 0x5c (λ same. omega (arith, same, high))) refl
+  | inr high ↦ far (get_or xs k 0) high
 ]
 
 -- a separator is an ASCII character
 small : (c : ℕ) → is_separator c ≡ true → c < 128
-small c is = elim (cases_lt c 128) [
-  | inl low ↦ low
-  | inr high ↦ (let none : is_separator c ≡ false = rw (ne_eqb c 0x2f (λ same. omega (arith, same, high)), ne_eqb c 0x5c (λ same. omega (arith, same, high))) refl in cc)
-]
-
-by_test : (c b : ℕ) (t : Bool) → (c == b) ≡ t → (b == c) ≡ t
-by_test c b true same = eq-eqb b c (sym (eqb-true c b same))
-by_test c b false other = ne_eqb b c (λ same. true≢false (sym (eq-eqb c b (sym same)) ∙ other))
-
--- a character is in the list of separators
-listed : (c : ℕ) → char_set_contains (0x2f ∷ 0x5c ∷ []) c ≡ is_separator c
-listed c = rw (by_test c 0x2f (c == 0x2f) refl, by_test c 0x5c (c == 0x5c) refl) (ends (c == 0x2f) (c == 0x5c))
-  where
-    ends : (a b : Bool) → (a || (b || false)) ≡ (a || b)
-    ends true b = refl
-    ends false true = refl
-    ends false false = refl
+small c is = elim (cases_lt c 128) [ inl low ↦ low | inr high ↦ (let none : is_separator c ≡ false = far c high in cc) ]
 
 -- what comes after the separator that a search from the end found
-pub after_found : (xs front part : List ℕ) → SplitsAroundMatch (λ s r. (k : ℕ → Bool) → ((c : ℕ) → char_set_contains (0x2f ∷ 0x5c ∷ []) c ≡ k c) → RFindsBy k s r) xs front part
+pub after_found : (xs front part : List ℕ) → SplitsAroundMatch (λ s r. (k : ℕ → Bool) → ((c : ℕ) → is_separator c ≡ k c) → RFindsBy k s r) xs front part
     → part ≡ after_last is_separator xs
 after_found xs front part (i, j, finds, at_front, at_part, le, len_front, len_part) =
-    let found = finds is_separator listed in
+    let found = finds is_separator (λ c. refl) in
     let separator = found.1 in
     let low : separator.0 < 128 = small separator.0 separator.1 in
     let one : j - 1 ≡ i = omega (arith, separator.2.ends, len_utf8_ascii separator.0 low) in
@@ -58,9 +44,9 @@ after_found xs front part (i, j, finds, at_front, at_part, le, len_front, len_pa
     at_part ∙ ap (λ n. drop n xs) (omega (arith, fixed, len_part))
 
 -- all of a path that has none
-pub after_nothing : (xs : List ℕ) → ((k : ℕ → Bool) → ((c : ℕ) → char_set_contains (0x2f ∷ 0x5c ∷ []) c ≡ k c) → RFindsBy k xs None) → xs ≡ after_last is_separator xs
+pub after_nothing : (xs : List ℕ) → ((k : ℕ → Bool) → ((c : ℕ) → is_separator c ≡ k c) → RFindsBy k xs None) → xs ≡ after_last is_separator xs
 after_nothing xs finds =
-    let none : NoCharPasses is_separator xs = finds is_separator listed in
+    let none : NoCharPasses is_separator xs = finds is_separator (λ c. refl) in
     let fixed = suffix_len_is (λ x. not (is_separator x)) xs 0 0 (omega arith) (λ k after within. rw (no_separator xs k none within) refl)
     (λ some. absurd (omega (arith, some))) in
     let all : 0 ≡ length xs - suffix_len (λ x. not (is_separator x)) xs = omega (arith, fixed) in

@@ -12,4 +12,5 @@ pub mod ModuleOrder
 pub mod NumberedFound
 pub mod PaddedLemmas
 pub mod PointLemmas
+pub mod SortedEntries
 pub mod TallyLemmas

@@ -1,9 +1,14 @@
 -- What is found in items and their indices, among one item more.
-use Rattle.std.proofs.Common.{◌≡◌, ◌∙◌, ◌<◌, ◌≤◌, ◌+◌, ◌++◌, ◌∷◌, [], ℕ, List, Option, ap, arith, get_or, length, sym, take}
+use Rattle.std.proofs.Common.{◌≡◌, ◌∙◌, ◌<◌, ◌≤◌, ◌+◌, ◌++◌, ◌∷◌, [], ℕ, List, Option, ap, arith, get_or, length, suc, sym, take}
 use Rattle.std.proofs.lemmas.List.{length-take-le, take_all, take_more}
 use Rattle.std.proofs.lemmas.List.Elements.{filter_map-append}
 use Rattle.std.specs.List.{cons_option, enumerate_from, filter_map}
-use Rattle.crash.proofs.Lasts.{numbered_end}
+
+numbered_end : {X : Type 0} (n : ℕ) (xs : List X) (x : X) → enumerate_from n (xs ++ (x ∷ [])) ≡ enumerate_from n xs ++ ((n + length xs, x) ∷ [])
+numbered_end n [] x = let same : n ≡ n + 0 = omega arith in ap (λ k. (k, x) ∷ []) same
+numbered_end n (y ∷ xs) x =
+    let same : n + 1 + length xs ≡ n + suc (length xs) = omega arith in
+    ap (λ ps. (n, y) ∷ ps) (numbered_end (n + 1) xs x ∙ ap (λ k. enumerate_from (n + 1) xs ++ ((k, x) ∷ [])) same)
 
 module _ {X D : Type 0} (find : ℕ × X → Option D) where
   pub next_numbered : (xs : List X) (i : ℕ) (x : X) (before after : List D) (o : Option D) → i < length xs → x ≡ get_or xs i x

@@ -204,8 +204,20 @@ fn crash_streams<'a>(
     ensures threads { IfOk result (λ s. thread_streams_of s.1 ≡ thread_streams_in (dump_of dump.now)) }
     ensures memory { IsOkUnless result Error.OutOfMemory }
 {
-    let system = system_streams(alloc, dump)?;
-    Ok((system, thread_streams(alloc, dump)?))
+    let system = SystemStreams {
+        system: dump.try_stream(alloc)?,
+        misc: dump.try_stream(alloc)?,
+        breakpad: dump.try_stream(alloc)?,
+        cpu_info: dump.try_stream(alloc)?,
+        lsb_release: dump.try_stream(alloc)?,
+    };
+    let threads = ThreadStreams {
+        exceptions: dump.exceptions(alloc)?,
+        threads: dump.try_stream(alloc)?,
+        names: dump.try_stream(alloc)?,
+        infos: dump.try_stream(alloc)?,
+    };
+    Ok((system, threads))
 }
 
 // Reads the streams of what the process itself said, and those of the process.
@@ -219,63 +231,21 @@ fn said_streams<'a>(
         (λ s. process_streams_of s.1 ≡ process_streams_in (dump_of dump.now)) }
     ensures memory { IsOkUnless result Error.OutOfMemory }
 {
-    let messages = message_streams(alloc, dump)?;
-    Ok((messages, process_streams(alloc, dump)?))
-}
-
-// Reads the streams of the system.
-fn system_streams<'a>(alloc: Global, dump: &Minidump<'a>) -> Result<SystemStreams<'a>, Error>
-    ensures streams { IfOk result (λ s. system_streams_of s ≡ system_streams_in (dump_of dump.now)) }
-    ensures memory { IsOkUnless result Error.OutOfMemory }
-{
-    Ok(SystemStreams {
-        system: dump.try_stream(alloc)?,
-        misc: dump.try_stream(alloc)?,
-        breakpad: dump.try_stream(alloc)?,
-        cpu_info: dump.try_stream(alloc)?,
-        lsb_release: dump.try_stream(alloc)?,
-    })
-}
-
-// Reads the streams of the crash and its threads.
-fn thread_streams<'a>(alloc: Global, dump: &Minidump<'a>) -> Result<ThreadStreams<'a>, Error>
-    ensures streams { IfOk result (λ s. thread_streams_of s ≡ thread_streams_in (dump_of dump.now)) }
-    ensures memory { IsOkUnless result Error.OutOfMemory }
-{
-    Ok(ThreadStreams {
-        exceptions: dump.exceptions(alloc)?,
-        threads: dump.try_stream(alloc)?,
-        names: dump.try_stream(alloc)?,
-        infos: dump.try_stream(alloc)?,
-    })
-}
-
-// Reads the streams of what the process itself said.
-fn message_streams<'a>(alloc: Global, dump: &Minidump<'a>) -> Result<MessageStreams<'a>, Error>
-    ensures streams { IfOk result (λ s. message_streams_of s ≡ message_streams_in (dump_of dump.now)) }
-    ensures memory { IsOkUnless result Error.OutOfMemory }
-{
-    Ok(MessageStreams {
+    let messages = MessageStreams {
         assertion: dump.try_stream(alloc)?,
         crashpad: dump.try_stream(alloc)?,
         mac_crash_info: dump.try_stream(alloc)?,
         mac_boot_args: dump.try_stream(alloc)?,
         soft_errors: dump.try_stream(alloc)?,
         stability: dump.try_stream(alloc)?,
-    })
-}
-
-// Reads the streams of the process.
-fn process_streams<'a>(alloc: Global, dump: &Minidump<'a>) -> Result<ProcessStreams<'a>, Error>
-    ensures streams { IfOk result (λ s. process_streams_of s ≡ process_streams_in (dump_of dump.now)) }
-    ensures memory { IsOkUnless result Error.OutOfMemory }
-{
-    Ok(ProcessStreams {
+    };
+    let process = ProcessStreams {
         handles: dump.try_stream(alloc)?,
         status: dump.try_stream(alloc)?,
         environ: dump.try_stream(alloc)?,
         limits: dump.try_stream(alloc)?,
-    })
+    };
+    Ok((messages, process))
 }
 
 // ---- the address space

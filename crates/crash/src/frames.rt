@@ -87,8 +87,8 @@ pub(crate) fn context_of(found: &FoundContext) -> MinidumpContext
     MinidumpContext::from_raw(found.raw)
 }
 
-// Returns what is found in a stack by a context, with at most `scan` candidates, where there are
-// both.
+// Returns what is found in a stack by a context, each frame with its module, with at most `scan`
+// candidates, where there are both.
 pub(crate) fn walk_of(
     alloc: Global,
     walked: Option<(Stack<'_, '_>, MinidumpContext)>,
@@ -98,29 +98,15 @@ pub(crate) fn walk_of(
         ≡ option_map (walk_from scan) (option_map walked_of walked.entry)) }
     ensures memory { IsOkUnless result Error.OutOfMemory }
 {
-    match walked {
-        Some((stack, context)) => Ok(Some(walk_from(alloc, &stack, &context, scan)?)),
-        None => Ok(None),
-    }
-}
-
-// Returns what is found in a stack by a context, each frame with its module.
-fn walk_from(
-    alloc: Global,
-    stack: &Stack<'_, '_>,
-    context: &MinidumpContext,
-    scan: usize,
-) -> Result<CrashWalk, Error>
-    ensures walk { IfOk result (λ walk. crash_walk_of walk
-        ≡ walk_from scan (stack_of stack.now, context.now)) }
-    ensures memory { IsOkUnless result Error.OutOfMemory }
-{
-    let walk = walk_stack(alloc, stack, context, scan)?;
-    Ok(CrashWalk {
-        frames: frames_in(alloc, stack, walk.frames.as_slice())?,
-        candidates: frames_in(alloc, stack, walk.candidates.as_slice())?,
+    let Some((stack, context)) = walked else {
+        return Ok(None);
+    };
+    let walk = walk_stack(alloc, &stack, &context, scan)?;
+    Ok(Some(CrashWalk {
+        frames: frames_in(alloc, &stack, walk.frames.as_slice())?,
+        candidates: frames_in(alloc, &stack, walk.candidates.as_slice())?,
         end: walk.end,
-    })
+    }))
 }
 
 // Returns frames, each with its module.

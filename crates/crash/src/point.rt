@@ -4,7 +4,7 @@ ghost use Rattle.std.specs.Option.{option_map};
 ghost use Rattle.minidump.specs.Below.MemoryLists.Unified.{unified_list};
 ghost use Rattle.stack_walk.specs.Frames.{instruction_pointer_in, stack_of};
 ghost use Rattle.crash.specs.Contents.{contents_of};
-ghost use Rattle.crash.specs.Point.{arm64_flags, arm_flags, code_at, flags_of, names_in, point_by};
+ghost use Rattle.crash.specs.Point.{arm64_flags, arm_flags, code_at, flags_of, names_in};
 ghost use Rattle.crash.specs.Point.{point_in, point_of, register_facts, set_flags, word_at};
 ghost use Rattle.crash.specs.Point.{words_from, x86_flags};
 
@@ -65,31 +65,18 @@ pub(crate) fn point_of<'a>(
     let Some(thread) = thread else {
         return Ok(None);
     };
-    match walked_at(contents, thread) {
-        Some((stack, context)) => Ok(Some(point_by(alloc, contents, &stack, &context)?)),
-        None => Ok(None),
-    }
-}
-
-// Returns the point of a stack and a context.
-fn point_by<'a>(
-    alloc: Global,
-    contents: &Contents<'a>,
-    stack: &Stack<'_, 'a>,
-    context: &MinidumpContext,
-) -> Result<CrashPoint<'a>, AllocError>
-    ensures { IfOk result (λ point. point_of point
-        ≡ point_by (contents_of contents.now) (stack_of stack.now) context.now) }
-{
-    let instruction = instruction_pointer_of(context);
-    Ok(CrashPoint {
+    let Some((stack, context)) = walked_at(contents, thread) else {
+        return Ok(None);
+    };
+    let instruction = instruction_pointer_of(&context);
+    Ok(Some(CrashPoint {
         instruction: facts_of(contents, instruction),
-        registers: register_facts(alloc, contents, context)?,
+        registers: register_facts(alloc, contents, &context)?,
         code: code_at(&contents.space.memory, instruction),
-        words: words_from(alloc, stack, context.get_stack_pointer(), 16)?,
+        words: words_from(alloc, &stack, context.get_stack_pointer(), 16)?,
         flags: flags_of(alloc, &context.raw)?,
         set_flags: set_flags_of(alloc, &context.raw)?,
-    })
+    }))
 }
 
 // Returns the instruction pointer of a context.

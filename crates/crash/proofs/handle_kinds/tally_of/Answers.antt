@@ -1,27 +1,22 @@
 -- One handle more, and the end.
-use Rattle.std.proofs.Common.{arith, map, take}
-use Rattle.minidump.specs.Below.Records.Dictionary.{entries_of}
-use Rattle.minidump.specs.Below.Records.Handles.{handle_of}
-use Rattle.crash.specs.HandleKinds.{type_names}
-use Rattle.crash.proofs.TallyLemmas.{all_handles, few_names, next_handle, none_yet}
+use Rattle.std.proofs.Common.{arith, rules}
+use Rattle.std.proofs.lemmas.Grind.{text_counts, text_groups}
+use Rattle.std.proofs.lemmas.List.{length-take-le}
+use Rattle.std.proofs.lemmas.List.Sums.{count_by-le-length}
+use Rattle.crash.proofs.TallyLemmas.{tallied}
 use Rattle.crash.proofs.handle_kinds.tally_of.Goals as goal
 
-pub loop-handle-init : goal.loop-handle-init
-loop-handle-init c = rw c.new-table.ensures.empty none_yet
-
-pub count_name-requires : goal.count_name-requires
-count_name-requires c = (
-  type_names (map handle_of (take c.loop-handle.handle-index c.args.handles.now)),
-  c.loop-handle.invariant,
-  few_names c.args.handles.now c.loop-handle.handle-index (omega (arith, c.loop-handle-test.true)) (omega (arith, c.loop-handle-test.true)),
-)
+pub overflow_add-table : goal.overflow_add-table
+overflow_add-table c = grind (arith, text_counts, count_by-le-length, length-take-le)
 
 pub loop-handle-preserved : goal.loop-handle-preserved
-loop-handle-preserved c =
-    next_handle c.args.handles.now c.loop-handle.handle-index c.handle-item.result (entries_of (λ n. n) c.loop-handle.table.entries) _
-    c.loop-handle-test.true c.handle-item.is c.loop-handle.invariant c.in_ok-count_name.ensures
+loop-handle-preserved c = record {
+  ordered = search rules;
+  present = λ q. grind (arith, text_groups, c.loop-handle.invariant.present q);
+  counted = λ q. grind (arith, text_counts, c.loop-handle.invariant.counted q);
+}
 
 pub returns : goal.returns
 returns c =
-    all_handles c.args.handles.now c.loop-handle.handle-index (entries_of (λ n. n) c.loop-handle.table.entries) c.loop-handle-test.false
-    c.loop-handle.invariant
+    tallied c.args.handles.now c.loop-handle.handle-index c.loop-handle.table c.loop-handle-test.false
+    c.loop-handle.invariant.ordered c.loop-handle.invariant.present c.loop-handle.invariant.counted
