@@ -1,5 +1,5 @@
 -- Where a text may be cut.
-use Rattle.std.proofs.Common.{◌≡◌, ◌∙◌, ◌<◌, ◌+◌, [], ◌∷◌, ℕ, List, true, ap, arith, drop, get_or, length}
+use Rattle.std.proofs.Common.{◌≡◌, ◌∙◌, ◌<◌, [], ◌∷◌, ℕ, List, true, ap, arith, drop, get_or, length}
 use Rattle.std.specs.Prelude.{codes}
 use Rattle.std.specs.Str.{IsCharBoundary}
 use Rattle.std.proofs.lemmas.Bool.Decides.{nat_tests}

@@ -1,10 +1,7 @@
 -- Marks of modules, and the wanted ones of the modules so far.
-use Rattle.std.proofs.Common.{◌≡◌, ◌∙◌, ℕ, ◌+◌, ◌<◌, ◌≤◌, ◌++◌, ◌∷◌, ◌||◌, [], Bool, List, ap, arith, cond, false, filter, get_or}
-use Rattle.std.proofs.Common.{length, map, refl, sym, take, true}
+use Rattle.std.proofs.Common.{◌≡◌, ◌∙◌, ℕ, ◌+◌, ◌≤◌, ◌++◌, ◌∷◌, ◌||◌, [], Bool, List, ap, arith, cond, filter, length, map, sym, take}
 use Rattle.std.specs.List.{list_any, range_with_len}
-use Rattle.std.proofs.Math.Bool.{or-false}
-use Rattle.std.proofs.lemmas.List.{map-id, map_more, take_all}
-use Rattle.std.proofs.lemmas.List.Folds.{list_any-append}
+use Rattle.std.proofs.lemmas.List.{map-id, take_all}
 use Rattle.std.proofs.lemmas.List.FromFn.{filter_of_map_range_with_len_more}
 
 -- the numbers so far that pass a test, with one more
@@ -19,21 +16,7 @@ pub kept_next : (test : ℕ → Bool) (n : ℕ) (passes : Bool) (before after : 
 kept_next test n passes before after is more so =
     more ∙ ap (λ l. l ++ cond passes (n ∷ []) []) so ∙ ap (λ b. filter test (range_with_len 0 n) ++ cond b (n ∷ []) []) (sym is) ∙ sym (kept_more test n)
 
-pub or_assoc : (a b c : Bool) → ((a || b) || c) ≡ (a || (b || c))
-or_assoc true b c = refl
-or_assoc false b c = refl
-
--- a mark by one item after another
+-- a mark by all items
 module _ {X Y : Type 0} (view : X → Y) (test : Y → Bool) where
-  pub marked_more : (xs : List X) (i : ℕ) (x : X) (old before after : Bool) → i < length xs → x ≡ get_or xs i x → after ≡ (before || test (view x))
-      → before ≡ (old || list_any test (map view (take i xs))) → after ≡ (old || list_any test (map view (take (i + 1) xs)))
-  marked_more xs i x old before after within at is so =
-      let so_far = map view (take i xs) in
-      let more : list_any test (map view (take (i + 1) xs)) ≡ (list_any test so_far || test (view x)) =
-      ap (list_any test) (map_more view xs i x within) ∙ list_any-append test so_far (view (get_or xs i x) ∷ [])
-      ∙ ap (λ b. list_any test so_far || b) (or-false (test (view (get_or xs i x))))
-      ∙ ap (λ y. list_any test so_far || test (view y)) (sym at) in
-      is ∙ ap (λ b. b || test (view x)) so ∙ or_assoc old (list_any test (map view (take i xs))) (test (view x)) ∙ ap (λ b. old || b) (sym more)
-
   pub marked_all : (xs : List X) (i : ℕ) (old after : Bool) → length xs ≤ i → after ≡ (old || list_any test (map view (take i xs))) → after ≡ (old || list_any test (map view xs))
   marked_all xs i old after past so = so ∙ ap (λ l. old || list_any test (map view l)) (take_all i xs past)

@@ -7,7 +7,7 @@ use Rattle.breakpad_symbols.specs.SymbolFile.{SymbolsValue}
 use Rattle.stack_walk.specs.declared.frame.StackFrame.{StackFrame}
 use Rattle.stack_walk.specs.Frames.{StackValue}
 use Rattle.symbol_walk.specs.declared.walk.SymbolWalkEnd.{SymbolWalkEnd}
-use Rattle.symbol_walk.specs.Walk.{SymbolWalkValue, symbol_walk_in}
+use Rattle.symbol_walk.specs.Walk.{SymbolWalkValue, plain_frames, symbol_walk_in}
 use Rattle.crash.specs.Crash.{CrashValue, walked_in}
 use Rattle.crash.specs.Frames.{frame_in}
 use Rattle.crash_symbols.specs.declared.backtraces.Backtrace.{Backtrace}
@@ -43,7 +43,7 @@ frame_by s files f = named_in files (frame_in s f)
 -- a walk with the module and the names of each frame
 abbrev pub backtrace_by : StackValue → List (Option SymbolsValue) → SymbolWalkValue → BacktraceValue
 backtrace_by s files w = record {
-  frames = map (λ f. frame_by s files f.frame) w.frames;
+  frames = map (frame_by s files) (plain_frames w.frames);
   candidates = map (frame_by s files) w.candidates;
   end = w.end;
 }
@@ -54,7 +54,7 @@ backtrace_on s scan walked = backtrace_by walked.0 s.files
     (symbol_walk_in walked.0 s.files walked.1 scan)
 
 -- the backtrace of a thread: none where it has no walk
-abbrev pub backtrace_in : CrashValue → KnownSymbols → ℕ → ℕ → Option BacktraceValue
+unfoldable pub backtrace_in : CrashValue → KnownSymbols → ℕ → ℕ → Option BacktraceValue
 backtrace_in c s scan thread = option_map (backtrace_on s scan) (walked_in c thread)
 
 -- those of all threads

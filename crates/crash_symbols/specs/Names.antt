@@ -1,7 +1,7 @@
 -- What a symbol file says of a frame: its function, its source line, and the calls that the compiler
 -- put in place there.
-use Rattle.std.specs.Prelude.{ℕ, ◌-◌, List, [], ◌∷◌, reverse, Option, Some, None}
-use Rattle.std.specs.List.{range_with_len}
+use Rattle.std.specs.Prelude.{ℕ, ◌-◌, List, [], ◌∷◌, map, reverse, Option, Some, None, is_some}
+use Rattle.std.specs.List.{filter_map, range_with_len, take_while}
 use Rattle.std.specs.Option.{option_and_then, option_map, option_map_or}
 use Rattle.minidump_index.specs.Lookup.{looked_up}
 use Rattle.breakpad_symbols.specs.declared.inline.InlineCall.{InlineCall}
@@ -60,15 +60,11 @@ source_of_call s call = record {
   line = call.line;
 }
 
--- the values of a function for these numbers, up to the first that has none
-unfoldable pub values_by : {A : Type 0} → (ℕ → Option A) → List ℕ → List A
-values_by value [] = []
-values_by value (n ∷ more) = option_map_or (λ x. x ∷ values_by value more) (value n) []
-
 -- the calls of the depths 0, 1 and so on, up to the first that none has, at most 1,000 of them; of two
 -- of one depth the first
 unfoldable pub by_depth : List InlineCall → List InlineCall
-by_depth calls = values_by (λ depth. first_numbered (λ c. c.depth) depth calls) (range_with_len 0 1000)
+by_depth calls = filter_map (λ call. call) (take_while is_some
+    (map (λ depth. first_numbered (λ c. c.depth) depth calls) (range_with_len 0 1000)))
 
 -- the calls put in place at an offset of a function
 abbrev pub calls_in : FunctionValue → ℕ → List InlineCall
@@ -111,6 +107,6 @@ named_at s f offset = option_map_or (λ function. named_by s function f offset) 
     (record { frame = f; function = public_name s offset; line = None; inlines = [] })
 
 -- a frame with its names, by the symbols of the modules
-abbrev pub named_in : List (Option SymbolsValue) → CrashFrame → NamedFrameValue
+unfoldable pub named_in : List (Option SymbolsValue) → CrashFrame → NamedFrameValue
 named_in files f = option_map_or (λ place. option_map_or (λ s. named_at s f place.1)
     (symbols_of_module files place.0) (unnamed f)) f.«module» (unnamed f)

@@ -2,7 +2,6 @@
 use Rattle.std.specs.Prelude.{ℕ, ◌++◌, List, map, Option, Some, None, slice_get, take}
 use Rattle.std.specs.Option.{option_and_then, option_map}
 use Rattle.symbol_walk.specs.declared.walk.SymbolWalkEnd.TheVariants.{Walk}
-use Rattle.crash.specs.declared.frames.CrashFrame.{CrashFrame}
 use Rattle.crash.specs.Frames.{CrashWalkValue}
 use Rattle.crash.specs.Threads.{ThreadValue}
 use Rattle.crash_symbols.specs.declared.backtraces.Symbolized.{Symbolized}

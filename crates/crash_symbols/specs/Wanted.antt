@@ -3,8 +3,7 @@ use Rattle.std.specs.Prelude.{ℕ, ◌==◌, ◌&&◌, ◌||◌, Bool, false, tr
 use Rattle.std.specs.List.{list_any, range_with_len}
 use Rattle.std.specs.Option.{option_map_or}
 use Rattle.crash_symbols.specs.declared.symbols.SymbolState.{SymbolState}
-use Rattle.crash_symbols.specs.declared.symbols.SymbolState.TheVariants.{Unwanted, Missing, Loaded, Corrupt}
-use Rattle.crash_symbols.specs.declared.symbols.SymbolState.TheVariants.{OutOfMemory}
+use Rattle.crash_symbols.specs.declared.symbols.SymbolState.TheVariants.{Unwanted}
 use Rattle.crash_symbols.specs.Backtraces.{BacktraceValue}
 use Rattle.crash_symbols.specs.Names.{NamedFrameValue}
 use Rattle.crash_symbols.specs.Symbols.{state_at}
@@ -21,10 +20,7 @@ visits index thread = option_map_or (λ b.
 -- nothing is known of a symbol file
 abbrev pub is_unwanted : SymbolState → Bool
 is_unwanted Unwanted = true
-is_unwanted Missing = false
-is_unwanted Loaded = false
-is_unwanted Corrupt = false
-is_unwanted OutOfMemory = false
+is_unwanted _ = false
 
 -- the symbol file of the module of an index is wanted: nothing is known of it, and a frame or a
 -- candidate lies in the module

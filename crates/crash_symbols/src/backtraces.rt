@@ -2,9 +2,8 @@ ghost use Rattle.std.specs.Prelude.{◌≡◌, IfOk, map};
 ghost use Rattle.std.specs.Option.{option_map};
 ghost use Rattle.stack_walk.specs.Frames.{stack_of};
 ghost use Rattle.crash.specs.Crash.{crash_of};
-ghost use Rattle.crash.specs.Frames.{walked_of};
 ghost use Rattle.symbol_walk.specs.Unwinder.{frame_of};
-ghost use Rattle.symbol_walk.specs.Walk.{symbol_walk_of};
+ghost use Rattle.symbol_walk.specs.Walk.{plain_frames, symbol_walk_of};
 ghost use Rattle.crash_symbols.specs.Backtraces.{backtrace_by, backtrace_in, backtrace_of};
 ghost use Rattle.crash_symbols.specs.Backtraces.{backtrace_on, backtraces_in, backtraces_of, frame_by};
 ghost use Rattle.crash_symbols.specs.NameParts.{named_of};
@@ -50,6 +49,7 @@ impl<'l> Backtraces<'l> {
     /// each.
     ///
     /// Returns `AllocError` if an allocation fails.
+    #[tactic(auto, using(crate::proofs::BacktraceLemmas::numbered_next))]
     pub fn find(
         alloc: Global,
         crash: &Crash<'_>,
@@ -68,6 +68,7 @@ impl<'l> Backtraces<'l> {
 }
 
 // Returns the backtrace of the thread of an index, or `None` if it has no walk.
+#[tactic(auto, unfolding(crate::specs::Backtraces::backtrace_in))]
 fn backtrace_in<'l>(
     alloc: Global,
     crash: &Crash<'_>,
@@ -113,35 +114,27 @@ fn backtrace_by<'l>(
     ensures { IfOk result (λ b. backtrace_of b ≡ backtrace_by (stack_of stack.now)
         (known_of symbols.now).files (symbol_walk_of walk.now)) }
 {
-    let frames = frames_by(alloc, stack, symbols, walk.frames.as_slice())?;
-    let candidates = candidates_by(alloc, stack, symbols, walk.candidates.as_slice())?;
+    let plain = plain_frames(alloc, walk.frames.as_slice())?;
     Ok(Backtrace {
-        frames,
-        candidates,
+        frames: frames_by(alloc, stack, symbols, plain.as_slice())?,
+        candidates: frames_by(alloc, stack, symbols, walk.candidates.as_slice())?,
         end: walk.end,
     })
 }
 
-// Returns frames, each with its module and its names.
-fn frames_by<'l>(
-    alloc: Global,
-    stack: &Stack<'_, '_>,
-    symbols: &Symbols<'l>,
-    frames: &[KnownFrame],
-) -> Result<Vec<NamedFrame<'l>>, AllocError>
-    ensures { IfOk result (λ named. map named_of named.items
-        ≡ map (λ f. frame_by (stack_of stack.now) (known_of symbols.now).files f.frame)
-        (map frame_of frames.now)) }
+// Returns the frames alone.
+fn plain_frames(alloc: Global, frames: &[KnownFrame]) -> Result<Vec<StackFrame>, AllocError>
+    ensures { IfOk result (λ plain. plain.items ≡ plain_frames (map frame_of frames.now)) }
 {
-    let mut named = Vec::new(alloc);
+    let mut plain = Vec::new(alloc);
     for known in frames {
-        named.push(frame_by(alloc, stack, symbols, &known.frame)?)?;
+        plain.push(known.frame)?;
     }
-    Ok(named)
+    Ok(plain)
 }
 
-// Returns candidates, each with its module and its names.
-fn candidates_by<'l>(
+// Returns frames, each with its module and its names.
+fn frames_by<'l>(
     alloc: Global,
     stack: &Stack<'_, '_>,
     symbols: &Symbols<'l>,
@@ -152,20 +145,7 @@ fn candidates_by<'l>(
 {
     let mut named = Vec::new(alloc);
     for frame in frames {
-        named.push(frame_by(alloc, stack, symbols, frame)?)?;
+        named.push(named_in(alloc, symbols, frame_in(stack, frame))?)?;
     }
     Ok(named)
-}
-
-// Returns a frame with its module and its names.
-fn frame_by<'l>(
-    alloc: Global,
-    stack: &Stack<'_, '_>,
-    symbols: &Symbols<'l>,
-    frame: &StackFrame,
-) -> Result<NamedFrame<'l>, AllocError>
-    ensures { IfOk result (λ f. named_of f
-        ≡ frame_by (stack_of stack.now) (known_of symbols.now).files frame.now) }
-{
-    named_in(alloc, symbols, frame_in(stack, frame))
 }

@@ -33,10 +33,7 @@ pub fn symbol_path(alloc: Global, module: &CrashModule) -> Result<Option<String>
     ensures { IfOk result (λ path. option_map string_bytes path
         ≡ symbol_path (loaded_of module.now)) }
 {
-    let Some(file) = &module.debug_file else {
-        return Ok(None);
-    };
-    let Some(id) = &module.debug_id else {
+    let (Some(file), Some(id)) = (&module.debug_file, &module.debug_id) else {
         return Ok(None);
     };
     let (name, id) = (file_name(file.as_str()), id.as_str());

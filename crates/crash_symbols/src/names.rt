@@ -3,13 +3,12 @@ ghost use Rattle.std.specs.Option.{option_map};
 ghost use Rattle.breakpad_symbols.specs.Function.{function_of};
 ghost use Rattle.breakpad_symbols.specs.SymbolFile.{symbols_of};
 ghost use Rattle.crash_symbols.specs.NameParts.{call_of, function_of as name_value, named_of, source_of};
-ghost use Rattle.crash_symbols.specs.Names.{by_depth, calls_in, function_at, inlines_by, line_around};
-ghost use Rattle.crash_symbols.specs.Names.{line_at, named_at, named_by, named_in, public_name};
-ghost use Rattle.crash_symbols.specs.Names.{source_of_call};
+ghost use Rattle.crash_symbols.specs.Names.{calls_in, function_at, inlines_by, line_around};
+ghost use Rattle.crash_symbols.specs.Names.{line_at, named_at, named_in, public_name, source_of_call};
 ghost use Rattle.crash_symbols.specs.Symbols.{known_of};
 
 use crate::Symbols;
-use breakpad_symbols::{Function, InlineCall, InlineCalls, SymbolFile};
+use breakpad_symbols::{Function, InlineCall, SymbolFile};
 use crash::CrashFrame;
 use minidump_bytes::{LinuxOsStr, Steps};
 use std::alloc::{AllocError, Global};
@@ -61,6 +60,7 @@ pub struct InlinedCall<'l> {
 }
 
 // Returns a frame with what the symbol file of its module says of it.
+#[tactic(auto, unfolding(crate::specs::Names::named_in))]
 pub(crate) fn named_in<'l>(
     alloc: Global,
     symbols: &Symbols<'l>,
@@ -90,15 +90,26 @@ fn named_at<'l>(
 ) -> Result<NamedFrame<'l>, AllocError>
     ensures { IfOk result (λ f. named_of f ≡ named_at (symbols_of file.now) frame offset) }
 {
-    match function_at(file, offset) {
-        Some(function) => named_by(alloc, file, function, frame, offset),
-        None => Ok(NamedFrame {
+    let Some(function) = function_at(file, offset) else {
+        return Ok(NamedFrame {
             frame,
             function: public_name(file, offset),
             line: None,
             inlines: Vec::new(alloc),
-        }),
-    }
+        });
+    };
+    let calls = calls_in(alloc, function, offset)?;
+    let (line, inlines) = inlines_by(alloc, file, line_at(file, function, offset), calls)?;
+    let name = FrameFunction {
+        name: function.name,
+        offset: offset.saturating_sub(function.address),
+    };
+    Ok(NamedFrame {
+        frame,
+        function: Some(name),
+        line,
+        inlines,
+    })
 }
 
 // Returns the kept function that has an offset.
@@ -117,31 +128,6 @@ fn public_name<'l>(file: &'l SymbolFile<'l>, offset: u64) -> Option<FrameFunctio
     Some(FrameFunction {
         name: symbol.name,
         offset: offset.saturating_sub(symbol.address),
-    })
-}
-
-// Returns a frame with what a symbol file says of an offset in a function.
-fn named_by<'l>(
-    alloc: Global,
-    file: &'l SymbolFile<'l>,
-    function: &Function<'l>,
-    frame: CrashFrame,
-    offset: u64,
-) -> Result<NamedFrame<'l>, AllocError>
-    ensures { IfOk result (λ f. named_of f
-        ≡ named_by (symbols_of file.now) (function_of function.now) frame offset) }
-{
-    let calls = calls_in(alloc, function, offset)?;
-    let (line, inlines) = inlines_by(alloc, file, line_at(file, function, offset), calls)?;
-    let name = FrameFunction {
-        name: function.name,
-        offset: offset.saturating_sub(function.address),
-    };
-    Ok(NamedFrame {
-        frame,
-        function: Some(name),
-        line,
-        inlines,
     })
 }
 
@@ -176,6 +162,7 @@ fn source_of_call<'l>(file: &'l SymbolFile<'l>, call: &InlineCall) -> SourceLine
 }
 
 // Returns the calls put in place at an offset of a function, by their depths from 0 on.
+#[tactic(auto, unfolding(crate::specs::Names::by_depth))]
 fn calls_in(
     alloc: Global,
     function: &Function<'_>,
@@ -184,25 +171,16 @@ fn calls_in(
     ensures { IfOk result (λ calls. calls.items ≡ calls_in (function_of function.now) offset) }
 {
     let calls = function.inlines_at(alloc, offset)?;
-    by_depth(alloc, &calls)
-}
-
-// Returns calls by their depths from 0 on.
-fn by_depth(alloc: Global, calls: &InlineCalls) -> Result<Vec<InlineCall>, AllocError>
-    ensures { IfOk result (λ ordered. ordered.items ≡ by_depth calls.now) }
-{
-    let mut ordered = Vec::new(alloc);
-    for depth in 0..MAX_DEPTH {
-        let Some(call) = calls.at_depth(depth) else {
-            return Ok(ordered);
-        };
-        ordered.push(call)?;
-    }
-    Ok(ordered)
+    (0..MAX_DEPTH)
+        .map(|depth| calls.at_depth(depth))
+        .take_while(|call| call.is_some())
+        .filter_map(|call| call)
+        .collect(alloc)
 }
 
 // Returns calls with their source lines, the innermost first, and the source line around all of them.
 // The calls are given by their depths, and the innermost stands at the given line.
+#[tactic(auto, using(crate::proofs::NameLemmas::last_first), unfolding(crate::specs::Names::inlines_by, crate::specs::Names::line_around))]
 fn inlines_by<'l>(
     alloc: Global,
     file: &'l SymbolFile<'l>,

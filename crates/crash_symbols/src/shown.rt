@@ -1,4 +1,4 @@
-ghost use Rattle.std.specs.Prelude.{◌≡◌, [], IfOk, map, take};
+ghost use Rattle.std.specs.Prelude.{◌≡◌, IfOk, map, take};
 ghost use Rattle.std.specs.Option.{option_copied, option_map};
 ghost use Rattle.crash.specs.Frames.{crash_walk_of};
 ghost use Rattle.crash.specs.Threads.{thread_value};
@@ -64,11 +64,7 @@ pub fn first_of<'f, 's, 'l>(
 ) -> &'f [ShownFrame<'s, 'l>]
     ensures { result.now ≡ take count frames.now }
 {
-    if count < frames.len() {
-        &frames[..count]
-    } else {
-        frames
-    }
+    &frames[..frames.len().min(count)]
 }
 
 /// Returns what is shown of a thread: its backtrace by `symbols`, or without `symbols` its walk.
@@ -118,16 +114,13 @@ fn named_frames<'s, 'l>(
 ) -> Result<Vec<ShownFrame<'s, 'l>>, AllocError>
     ensures { IfOk result (λ shown. map shown_frame_of shown.items ≡ map named_of frames.now) }
 {
-    let mut shown = Vec::new(alloc);
-    for named in frames {
-        shown.push(ShownFrame {
-            frame: named.frame,
-            function: named.function,
-            line: named.line,
-            inlines: named.inlines.as_slice(),
-        })?;
-    }
-    Ok(shown)
+    let shown = frames.iter().map(|named| ShownFrame {
+        frame: named.frame,
+        function: named.function,
+        line: named.line,
+        inlines: named.inlines.as_slice(),
+    });
+    shown.collect(alloc)
 }
 
 // Returns what is shown of a walk without symbols.
@@ -153,22 +146,11 @@ fn unnamed_frames<'s, 'l: 's>(
 ) -> Result<Vec<ShownFrame<'s, 'l>>, AllocError>
     ensures { IfOk result (λ shown. map shown_frame_of shown.items ≡ map unnamed frames.now) }
 {
-    let none: &'s [InlinedCall<'l>] = no_calls();
-    let mut shown = Vec::new(alloc);
-    for frame in frames {
-        shown.push(ShownFrame {
-            frame: *frame,
-            function: None,
-            line: None,
-            inlines: none,
-        })?;
-    }
-    Ok(shown)
-}
-
-// Returns no calls.
-fn no_calls<'s, 'l: 's>() -> &'s [InlinedCall<'l>]
-    ensures { result.now ≡ [] }
-{
-    &[]
+    let shown = frames.iter().map(|frame| ShownFrame {
+        frame: *frame,
+        function: None,
+        line: None,
+        inlines: &[],
+    });
+    shown.collect(alloc)
 }

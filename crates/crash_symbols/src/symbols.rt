@@ -56,9 +56,8 @@ impl<'l> Symbols<'l> {
     pub fn state(&self, index: usize) -> SymbolState
         ensures { result ≡ state_at (known_of self.now).states index }
     {
-        match self.states.get(index) {
-            Some(state) => *state,
-            None => SymbolState::Unwanted,
-        }
+        self.states
+            .get(index)
+            .map_or(SymbolState::Unwanted, |state| *state)
     }
 }

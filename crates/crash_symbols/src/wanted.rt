@@ -56,13 +56,7 @@ fn wanted_of(
 fn is_wanted(state: SymbolState, is_visited: bool) -> bool
     ensures { result ≡ (is_unwanted state && is_visited) }
 {
-    match state {
-        SymbolState::Unwanted => is_visited,
-        SymbolState::Missing
-        | SymbolState::Loaded
-        | SymbolState::Corrupt
-        | SymbolState::OutOfMemory => false,
-    }
+    matches!(state, SymbolState::Unwanted) && is_visited
 }
 
 // Tells of each of so many modules whether a frame or a candidate lies in it.

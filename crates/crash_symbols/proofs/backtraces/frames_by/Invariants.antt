@@ -6,6 +6,6 @@ use Rattle.crash_symbols.specs.NameParts.{named_of}
 use Rattle.crash_symbols.specs.Symbols.{known_of}
 use Rattle.crash_symbols.proofs.backtraces.frames_by.Given as goal
 
-abbrev pub invariant-loop-known : goal.invariant-loop-known
-invariant-loop-known l = map named_of l.named.items
-    ≡ map (λ f. frame_by (stack_of l.stack) (known_of l.symbols).files f.frame) (take l.known-index l.frames)
+abbrev pub invariant-loop-frame : goal.invariant-loop-frame
+invariant-loop-frame l = map named_of l.named.items
+    ≡ map (frame_by (stack_of l.stack) (known_of l.symbols).files) (take l.frame-index l.frames)
