@@ -1,36 +1,24 @@
 -- The line of an address, with what is known of it.
-use Rattle.std.specs.Prelude.{ℕ, ◌++◌, Bool, true, false, List, [], ◌∷◌, codes, not, slice_get}
+use Rattle.std.specs.Prelude.{ℕ, Bool, true, false, List, [], ◌∷◌, codes, not, slice_get}
 use Rattle.std.specs.Prelude.{Option, Some, None}
 use Rattle.std.specs.List.{concat}
-use Rattle.std.specs.Option.{option_and_then}
+use Rattle.std.specs.Option.{option_and_then, option_map}
 use Rattle.minidump.specs.Below.Bytes.Piece.{hex}
 use Rattle.crash.specs.declared.addresses.AddressFacts.{AddressFacts}
 use Rattle.crash.specs.declared.addresses.AddressMemory.{AddressMemory}
 use Rattle.crash.specs.declared.addresses.RegionState.{RegionState}
 use Rattle.crash.specs.declared.addresses.RegionState.TheVariants.{Committed, Free, Reserved}
 use Rattle.crash.specs.Crash.{CrashValue}
-use Rattle.crash.specs.Modules.{UnloadedModuleValue}
-use Rattle.crash.specs.Threads.{ThreadValue}
-use Rattle.crash_text.specs.Words.{id_text, place_text, words_if}
+use Rattle.crash_text.specs.Words.{hex_if, id_if, place_text, text_if, words_if}
 
--- how far the address is from 0, where it is near
-abbrev pub null_words : Option ℕ → List ℕ
-null_words (Some offset) = concat (codes ", null + " ∷ hex offset ∷ [])
-null_words None = []
+-- the path of the unloaded module of an index
+abbrev pub unloaded_path : CrashValue → Option ℕ → Option (List ℕ)
+unloaded_path c index =
+    option_map (λ m. m.path) (option_and_then (slice_get c.modules.unloaded) index)
 
--- the path of an unloaded module
-abbrev pub path_words : List ℕ → List ℕ
-path_words path = concat (codes ", in unloaded " ∷ path ∷ [])
-
--- that of the unloaded module that contained it
-abbrev pub unloaded_words : Option UnloadedModuleValue → List ℕ
-unloaded_words (Some m) = path_words m.path
-unloaded_words None = []
-
--- a thread after these words
-abbrev pub thread_words : List ℕ → Option ThreadValue → List ℕ
-thread_words words (Some t) = id_text words t.id
-thread_words words None = []
+-- the id of the thread of an index
+abbrev pub thread_id : CrashValue → Option ℕ → Option ℕ
+thread_id c index = option_map (λ t. t.id) (option_and_then (slice_get c.threads.threads) index)
 
 -- a letter for a right, and a dash where it is absent
 abbrev pub right_letter : List ℕ → Bool → List ℕ
@@ -54,22 +42,17 @@ abbrev pub memory_words : Option AddressMemory → List ℕ
 memory_words (Some m) = state_words m.state m
 memory_words None = []
 
--- all that is known of an address, by the unloaded modules and the threads
-abbrev pub address_words : List UnloadedModuleValue → List ThreadValue → AddressFacts → List ℕ
-address_words unloaded threads a = null_words a.null_offset
-    ++ (words_if (not a.is_canonical) (codes ", not canonical")
-    ++ (unloaded_words (option_and_then (slice_get unloaded) a.unloaded)
-    ++ (thread_words (codes ", in the stack of thread ")
-    (option_and_then (slice_get threads) a.stack_of)
-    ++ (thread_words (codes ", below the stack of thread ")
-    (option_and_then (slice_get threads) a.below_stack) ++ memory_words a.memory))))
-
--- the line of an address after its name, with the words for its module, or these where no module
--- has it, and what is known of it
+-- the line of an address after its name: its module and the offset in it, or these words where no
+-- module has it; how far it is from 0, where it is near; that it isn't canonical; the unloaded
+-- module that contained it, the threads in and below whose stacks it lies, and its memory
 unfoldable pub address_line : CrashValue → List ℕ → List ℕ → List ℕ → AddressFacts → List ℕ
 address_line c indent name nowhere a = concat (indent ∷ name ∷ codes " " ∷ hex a.address
-    ∷ place_text c.modules.loaded nowhere a.«module»
-    ∷ address_words c.modules.unloaded c.threads.threads a ∷ [])
+    ∷ place_text c.modules.loaded nowhere a.«module» ∷ hex_if (codes ", null + ") a.null_offset
+    ∷ words_if (not a.is_canonical) (codes ", not canonical")
+    ∷ text_if (codes ", in unloaded ") (unloaded_path c a.unloaded) []
+    ∷ id_if (codes ", in the stack of thread ") (thread_id c a.stack_of)
+    ∷ id_if (codes ", below the stack of thread ") (thread_id c a.below_stack)
+    ∷ memory_words a.memory ∷ [])
 
 -- the line of the address of the crash
 abbrev pub address_lines : CrashValue → AddressFacts → List (List ℕ)

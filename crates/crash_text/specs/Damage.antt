@@ -4,7 +4,6 @@ use Rattle.std.specs.Fmt.{decimal}
 use Rattle.std.specs.List.{concat}
 use Rattle.minidump.specs.declared.format.MINIDUMP_STREAM_TYPE.{MINIDUMP_STREAM_TYPE}
 use Rattle.minidump.specs.Below.Bytes.Piece.{hex}
-use Rattle.minidump.specs.Below.Format.Error.{name_of_error}
 use Rattle.minidump.specs.Below.Format.StreamType.{stream_type_of, type_name}
 use Rattle.crash.specs.declared.damage.Damage.{Damage}
 use Rattle.crash.specs.declared.damage.Damage.TheVariants.{Entries, Exception, ExceptionContext, Modules}
@@ -14,7 +13,7 @@ use Rattle.crash.specs.declared.unreadable_modules.ModulePart.{ModulePart}
 use Rattle.crash.specs.declared.unreadable_modules.ModulePart.TheVariants.{CodeView, Name}
 use Rattle.crash.specs.declared.unreadable_modules.UnreadableModule.{UnreadableModule}
 use Rattle.crash.specs.Crash.{CrashValue}
-use Rattle.crash_text.specs.Words.{id_text}
+use Rattle.crash_text.specs.Words.{error_words, id_words}
 
 -- the name of a type of stream, or `stream` and its number where it has none
 abbrev pub name_of_type : ℕ → Option MINIDUMP_STREAM_TYPE → List ℕ
@@ -25,36 +24,31 @@ name_of_type number None = concat (codes "stream " ∷ hex number ∷ [])
 abbrev pub stream_text : ℕ → List ℕ
 stream_text number = name_of_type number (stream_type_of number)
 
--- the line of a stream or an exception, with the name of its error
-unfoldable pub stream_row : List ℕ → List ℕ → List ℕ
-stream_row stream error = concat (codes "can't be read: " ∷ stream ∷ codes ": " ∷ error ∷ [])
-
--- the line of a number, after words and what is counted
-unfoldable pub count_row : List ℕ → List ℕ → ℕ → List ℕ
-count_row words counted count = concat (words ∷ counted ∷ codes ": " ∷ decimal count ∷ [])
-
 -- the line of something that can't be read, or of bytes that are not in the file
-abbrev pub damage_row : Damage → List ℕ
-damage_row (Stream number error) = stream_row (stream_text number) (name_of_error error)
+unfoldable pub damage_row : Damage → List ℕ
+damage_row (Stream number error) =
+    concat (codes "can't be read: " ∷ stream_text number ∷ error_words (Some error) ∷ [])
 damage_row (Entries count) =
-    count_row (codes "outside the file: ") (codes "entries of the directory") count
+    concat (codes "outside the file: entries of the directory: " ∷ decimal count ∷ [])
 damage_row (Regions count) =
-    count_row (codes "outside the file: ") (codes "regions of the plain list of memory") count
+    concat (codes "outside the file: regions of the plain list of memory: " ∷ decimal count ∷ [])
 damage_row (Modules count) =
-    count_row (codes "can't be read: ") (codes "modules without addresses") count
-damage_row (Texts number count) =
-    count_row (codes "can't be read: texts of ") (stream_text number) count
-damage_row (Records number count) =
-    count_row (codes "can't be read: records of ") (stream_text number) count
+    concat (codes "can't be read: modules without addresses: " ∷ decimal count ∷ [])
+damage_row (Texts number count) = concat (codes "can't be read: texts of " ∷ stream_text number
+    ∷ codes ": " ∷ decimal count ∷ [])
+damage_row (Records number count) = concat (codes "can't be read: records of "
+    ∷ stream_text number ∷ codes ": " ∷ decimal count ∷ [])
 damage_row (Exception error) =
-    stream_row (codes "an exception before the last") (name_of_error error)
-damage_row (Parameters thread count) = count_row (codes "can't be read: ")
-    (id_text (codes "parameters of the exception on thread ") thread) count
+    concat (codes "can't be read: an exception before the last" ∷ error_words (Some error) ∷ [])
+damage_row (Parameters thread count) =
+    concat (codes "can't be read: parameters of the exception on thread " ∷ id_words thread
+    ∷ codes ": " ∷ decimal count ∷ [])
 damage_row (ExceptionContext thread) =
-    id_text (codes "outside the file: the context of the exception on thread ") thread
+    concat (codes "outside the file: the context of the exception on thread " ∷ id_words thread ∷ [])
 damage_row (ThreadContext thread) =
-    id_text (codes "outside the file: the context of thread ") thread
-damage_row (Stack thread) = id_text (codes "outside the file: the stack of thread ") thread
+    concat (codes "outside the file: the context of thread " ∷ id_words thread ∷ [])
+damage_row (Stack thread) =
+    concat (codes "outside the file: the stack of thread " ∷ id_words thread ∷ [])
 
 -- the words for a part of a module's entry
 abbrev pub part_words : ModulePart → List ℕ

@@ -1,5 +1,5 @@
 -- The lines of frames, and which frames are printed.
-use Rattle.std.specs.Prelude.{ℕ, ◌++◌, ◌-◌, ◌==◌, Bool, false, true, List, [], ◌∷◌, length, map}
+use Rattle.std.specs.Prelude.{ℕ, ◌++◌, ◌-◌, Bool, false, true, List, [], ◌∷◌, length, map}
 use Rattle.std.specs.Prelude.{codes, if◌then◌else◌, take, unwrap_or, Option, Some, None}
 use Rattle.std.specs.Fmt.{decimal}
 use Rattle.std.specs.List.{concat, enumerate_from, flat_map}
@@ -22,10 +22,11 @@ use Rattle.crash_symbols.specs.Backtraces.{BacktraceValue}
 use Rattle.crash_symbols.specs.NameParts.{source_of}
 use Rattle.crash_symbols.specs.Names.{CallValue, NamedFrameValue, SourceValue}
 use Rattle.crash_symbols.specs.Shown.{all_frames, first_frames}
-use Rattle.crash_text.specs.declared.entries.FrameEntry.{FrameEntry}
+use Rattle.crash_text.specs.declared.frames.FrameEntry.{FrameEntry}
 use Rattle.crash_text.specs.declared.limits.TextLimits.{TextLimits}
+use Rattle.crash_text.specs.Lines.{table}
 use Rattle.crash_text.specs.Page.{PageValue}
-use Rattle.crash_text.specs.Words.{place_text}
+use Rattle.crash_text.specs.Words.{count_if, hex_if, lossy_if, place_text}
 
 -- ---- a frame, and the inlined calls there
 
@@ -87,16 +88,6 @@ found_text false FramePointer = codes ", frame pointer"
 found_text false Scan = codes ", scan"
 found_text false Link = codes ", link register"
 
--- the words for an offset in a function
-abbrev pub offset_text : Option ℕ → List ℕ
-offset_text (Some offset) = concat (codes " + " ∷ hex offset ∷ [])
-offset_text None = []
-
--- the words for a function by its name and an offset in it
-abbrev pub name_text : Option (List ℕ) → Option ℕ → List ℕ
-name_text (Some name) offset = concat (codes " " ∷ utf8_lossy name ∷ offset_text offset ∷ [])
-name_text None offset = []
-
 -- the words for a line of a source file, where the file is known
 abbrev pub line_text : Option (List ℕ) → ℕ → List ℕ
 line_text (Some file) line =
@@ -113,11 +104,12 @@ source_text None = []
 abbrev pub printed_address : CrashFrame → ℕ
 printed_address f = unwrap_or f.address f.instruction
 
--- the line of a frame or a call: its number, its address, its function, its source line, its
--- module, and how it was found
+-- the line of a frame or a call: its number, its address, its function with the offset in it, its
+-- source line, its module, and how it was found
 unfoldable pub entry_line : List LoadedValue → ℕ → EntryValue → List ℕ
 entry_line modules number e = concat (codes "    #" ∷ decimal number ∷ codes " "
-    ∷ hex (printed_address e.frame) ∷ name_text e.function e.offset ∷ source_text e.source
+    ∷ hex (printed_address e.frame) ∷ lossy_if (codes " ") e.function
+    ∷ hex_if (codes " + ") e.offset ∷ source_text e.source
     ∷ place_text modules (codes " in no module") e.frame.«module»
     ∷ found_text e.is_inline e.frame.trust ∷ [])
 
@@ -132,11 +124,6 @@ each_entry modules entries = map (λ p. entry_line modules p.0 p.1) (enumerate_f
 abbrev pub printed_frames : TextLimits → Bool → BacktraceValue → List NamedFrameValue
 printed_frames limits is_whole w =
     if is_whole then first_frames limits.frames w else take 1 w.frames
-
--- the line of a count between its words, where there is anything to count
-unfoldable pub lines_if_any : List ℕ → ℕ → List ℕ → List (List ℕ)
-lines_if_any before count after =
-    if count == 0 then [] else concat (before ∷ decimal count ∷ after ∷ []) ∷ []
 
 -- why a walk ends, in words
 abbrev pub end_text : SymbolWalkEnd → List ℕ
@@ -154,10 +141,11 @@ end_text ZeroReturnAddress = codes "return address of 0"
 -- beyond the limit, the end of its walk, and how many of all of them are candidates, which follow
 -- the last caller
 unfoldable pub rest_lines : TextLimits → BacktraceValue → List (List ℕ)
-rest_lines limits w =
-    lines_if_any (codes "    and ") (length (all_frames w) - limits.frames) (codes " more")
-    ++ (concat (codes "    end: " ∷ end_text w.end ∷ [])
-    ∷ lines_if_any (codes "    candidates: ") (length w.candidates) [])
+rest_lines limits w = table (
+    (count_if (codes "    and ") (length (all_frames w) - limits.frames) (codes " more") ∷ [])
+    ∷ (codes "    end: " ∷ end_text w.end ∷ [])
+    ∷ (count_if (codes "    candidates: ") (length w.candidates) [] ∷ [])
+    ∷ [])
 
 -- what is found in the stack of a thread
 abbrev pub walk_lines : PageValue → Bool → BacktraceValue → List (List ℕ)

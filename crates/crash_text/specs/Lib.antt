@@ -15,4 +15,5 @@ pub mod Threads
 pub mod Messages
 pub mod Modules
 pub mod Lists
+pub mod Parts
 pub mod Text

@@ -1,12 +1,10 @@
 -- The lines of the lists of a dump: how many items each has and, if lists are asked for, the items.
 use Rattle.std.specs.Prelude.{ℕ, ◌++◌, ◌||◌, Bool, true, is_none, List, [], ◌∷◌, length, map}
-use Rattle.std.specs.Prelude.{Option, Some, None, Result, Ok, Err, codes, if◌then◌else◌}
+use Rattle.std.specs.Prelude.{Option, Some, Result, Ok, Err, codes, if◌then◌else◌}
 use Rattle.std.specs.Fmt.{decimal}
 use Rattle.std.specs.List.{concat}
-use Rattle.std.specs.Str.Lossy.{utf8_lossy}
 use Rattle.minidump.specs.declared.Error.{Error}
 use Rattle.minidump.specs.Below.Bytes.Piece.{hex}
-use Rattle.minidump.specs.Below.Format.Error.{name_of_error}
 use Rattle.minidump.specs.Below.MemoryLists.Unified.{UnifiedRegion, unified_regions}
 use Rattle.minidump.specs.Below.Modules.UnloadedModule.{UnloadedValue}
 use Rattle.minidump.specs.Below.Records.Descriptor.{handle}
@@ -21,7 +19,7 @@ use Rattle.crash_text.specs.Damage.{stream_text}
 use Rattle.crash_text.specs.Lines.{if_some}
 use Rattle.crash_text.specs.Modules.{all_modules, end_text, key_text}
 use Rattle.crash_text.specs.Page.{PageValue}
-use Rattle.crash_text.specs.Words.{count_row, or_empty, where_some}
+use Rattle.crash_text.specs.Words.{count_row, error_words, hex_or, lossy_if, text_if}
 
 -- the number of items, and the lines of them if they are asked for
 abbrev pub list_lines : {X : Type 0} → Bool → List ℕ → (X → List ℕ) → List X → List (List ℕ)
@@ -30,19 +28,10 @@ list_lines is_asked what row items =
 
 -- ---- streams
 
--- why a stream can't be read, where it can't
-abbrev pub error_words : Option Error → List ℕ
-error_words (Some error) = concat (codes ": " ∷ name_of_error error ∷ [])
-error_words None = []
-
 -- the line of a stream: its name, the number of its type, its bytes, and why it can't be read
-unfoldable pub entry_row : StreamEntry → List ℕ → List ℕ → List ℕ
-entry_row e name error = concat (codes "    " ∷ name ∷ codes " (" ∷ hex e.number ∷ codes "), "
-    ∷ decimal e.size ∷ codes " bytes at " ∷ hex e.rva ∷ error ∷ [])
-
--- the same, by the stream alone
-abbrev pub entry_line : StreamEntry → List ℕ
-entry_line e = entry_row e (stream_text e.number) (error_words e.error)
+unfoldable pub entry_line : StreamEntry → List ℕ
+entry_line e = concat (codes "    " ∷ stream_text e.number ∷ codes " (" ∷ hex e.number
+    ∷ codes "), " ∷ decimal e.size ∷ codes " bytes at " ∷ hex e.rva ∷ error_words e.error ∷ [])
 
 -- ---- unloaded modules
 
@@ -74,32 +63,26 @@ memory_lines limits regions errors = if is_none errors.0 || is_none errors.1
 
 -- ---- handles
 
--- the words for the operating system's value of a handle
-abbrev pub value_text : Option ℕ → List ℕ
-value_text (Some n) = hex n
-value_text None = codes "no value"
-
 -- the line of a handle: its value, the name of its type, and its own
 unfoldable pub handle_line : Handle → List ℕ
-handle_line h = concat (codes "    " ∷ value_text (handle h.raw)
-    ∷ where_some (codes " ") h.type_name ∷ or_empty h.type_name
-    ∷ where_some (codes " \"") h.object_name ∷ or_empty h.object_name
-    ∷ where_some (codes "\"") h.object_name ∷ [])
-
--- all handles are asked for
-abbrev pub all_handles : TextLimits → Bool
-all_handles limits = limits.lists || limits.handles
+handle_line h = concat (codes "    " ∷ hex_or (handle h.raw) (codes "no value")
+    ∷ text_if (codes " ") h.type_name [] ∷ text_if (codes " \"") h.object_name (codes "\"") ∷ [])
 
 -- the line of a kind of handles: the name of their type, and how many there are
 unfoldable pub kind_line : KindValue → List ℕ
 kind_line k = concat (codes "    " ∷ k.type_name ∷ codes " " ∷ decimal k.count ∷ [])
+
+-- whether all handles are asked for
+abbrev pub all_handles : TextLimits → Bool
+all_handles limits = limits.lists || limits.handles
 
 -- the handles, where their list can be read: how many there are, each kind, and all of them if they
 -- are asked for
 abbrev pub handles_lines : TextLimits → List KindValue → Result (List Handle) Error
     → List (List ℕ)
 handles_lines limits kinds (Ok handles) = count_row (codes "handles") (length handles)
-    ∷ (map kind_line kinds ++ (if all_handles limits then map handle_line handles else []))
+    ∷ (map kind_line kinds
+    ++ (if all_handles limits then map handle_line handles else []))
 handles_lines limits kinds (Err _) = []
 
 -- ---- Linux's limits of the process
@@ -107,7 +90,7 @@ handles_lines limits kinds (Err _) = []
 -- the line of a limit: its name, the soft and the hard one, and what they count
 unfoldable pub limit_line : LimitValue → List ℕ
 limit_line l = concat (codes "    " ∷ l.name ∷ codes " soft " ∷ l.soft ∷ codes " hard " ∷ l.hard
-    ∷ where_some (codes " ") l.unit ∷ or_empty l.unit ∷ [])
+    ∷ text_if (codes " ") l.unit [] ∷ [])
 
 -- the limits, where their stream can be read
 abbrev pub limits_lines : TextLimits → Result (List ℕ) Error → List (List ℕ)
@@ -116,13 +99,10 @@ limits_lines limits (Err _) = []
 
 -- ---- Linux's environment
 
--- the line of a variable of the environment
-unfoldable pub variable_row : List ℕ → List ℕ → List ℕ
-variable_row name value = concat (codes "environment " ∷ name ∷ codes "=" ∷ value ∷ [])
-
--- the same by the variable, with U+FFFD for what isn't UTF-8
-abbrev pub variable_line : List ℕ × List ℕ → List ℕ
-variable_line p = variable_row (utf8_lossy p.0) (utf8_lossy p.1)
+-- the line of a variable of the environment, with U+FFFD for what isn't UTF-8
+unfoldable pub variable_line : List ℕ × List ℕ → List ℕ
+variable_line p = concat (lossy_if (codes "environment ") (Some p.0)
+    ∷ lossy_if (codes "=") (Some p.1) ∷ [])
 
 -- the environment, where its stream can be read: the number of variables, and only if they are
 -- asked for themselves their lines

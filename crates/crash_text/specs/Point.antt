@@ -11,8 +11,8 @@ use Rattle.crash.specs.Crash.{CrashValue}
 use Rattle.crash.specs.Modules.{LoadedValue}
 use Rattle.crash.specs.Point.{PointValue}
 use Rattle.crash_text.specs.Addresses.{address_line}
-use Rattle.crash_text.specs.Lines.{if_some}
-use Rattle.crash_text.specs.Words.{place_text, text_row}
+use Rattle.crash_text.specs.Lines.{if_some, table}
+use Rattle.crash_text.specs.Words.{place_text}
 
 -- ---- the flags
 
@@ -20,19 +20,21 @@ use Rattle.crash_text.specs.Words.{place_text, text_row}
 abbrev pub flag_words : List ℕ × ℕ → List ℕ
 flag_words r = concat (codes "  " ∷ r.0 ∷ codes " " ∷ hex r.1 ∷ [])
 
--- the line of all of them
-unfoldable pub flags_row : List (List ℕ × ℕ) → List ℕ
-flags_row flags = concat (codes "  " ∷ flat_map flag_words flags ∷ [])
-
 -- the words for a flag that is set
 abbrev pub set_words : List ℕ → List ℕ
 set_words name = concat (codes " " ∷ name ∷ [])
 
--- the line of the flags that are set, where there are any
-abbrev pub set_lines : List (List ℕ) → List (List ℕ)
-set_lines [] = []
-set_lines (name ∷ names) =
-    text_row (codes "    flags set:") (flat_map set_words (name ∷ names)) ∷ []
+-- names after words, where there are any
+abbrev pub names_after : List ℕ → List (List ℕ) → List ℕ
+names_after words [] = []
+names_after words (name ∷ names) = words ++ flat_map set_words (name ∷ names)
+
+-- the line of the flags and the segments, and that of the flags that are set, where there are any
+unfoldable pub flags_lines : List (List ℕ × ℕ) → List (List ℕ) → List (List ℕ)
+flags_lines flags set = table (
+    (codes "  " ∷ flat_map flag_words flags ∷ [])
+    ∷ (names_after (codes "    flags set:") set ∷ [])
+    ∷ [])
 
 -- ---- the registers
 
@@ -67,15 +69,15 @@ instruction_lines c a = if is_ordinary a then []
 abbrev pub byte_words : ℕ → List ℕ
 byte_words b = concat (codes " " ∷ wide_hex 2 b ∷ [])
 
--- the line of the bytes at an address
-unfoldable pub code_row : ℕ → List ℕ → List ℕ
-code_row address code = concat (codes "bytes at " ∷ hex address ∷ codes ":"
-    ∷ flat_map byte_words code ∷ [])
+-- the bytes at an address, where there are any
+abbrev pub code_at : ℕ → List ℕ → List ℕ
+code_at address [] = []
+code_at address (b ∷ bs) = concat (codes "bytes at " ∷ hex address ∷ codes ":"
+    ∷ flat_map byte_words (b ∷ bs) ∷ [])
 
--- the same where there are any
-abbrev pub code_lines : ℕ → List ℕ → List (List ℕ)
-code_lines address [] = []
-code_lines address (b ∷ bs) = code_row address (b ∷ bs) ∷ []
+-- the line of them
+unfoldable pub code_lines : ℕ → List ℕ → List (List ℕ)
+code_lines address code = table ((code_at address code ∷ []) ∷ [])
 
 -- ---- the words
 
@@ -94,8 +96,7 @@ words_lines modules (w ∷ ws) =
 
 -- the flags and the registers
 abbrev pub processor_lines : CrashValue → PointValue → List (List ℕ)
-processor_lines c p =
-    flags_row p.flags ∷ (set_lines p.set_flags ++ placed_registers c p.registers)
+processor_lines c p = flags_lines p.flags p.set_flags ++ placed_registers c p.registers
 
 -- the instruction pointer, the code and the words
 abbrev pub memory_lines : CrashValue → PointValue → List (List ℕ)

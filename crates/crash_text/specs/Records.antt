@@ -1,6 +1,5 @@
 -- The words for what the record of an exception says beside its code and where it happened.
-use Rattle.std.specs.Prelude.{ℕ, ◌++◌, ◌==◌, List, [], ◌∷◌, Option, Some, None, codes}
-use Rattle.std.specs.Prelude.{if◌then◌else◌}
+use Rattle.std.specs.Prelude.{ℕ, ◌++◌, List, [], ◌∷◌, Option, Some, None, codes}
 use Rattle.std.specs.Fmt.{decimal}
 use Rattle.std.specs.List.{concat, flat_map}
 use Rattle.minidump.specs.Below.Bytes.Piece.{hex}
@@ -10,11 +9,7 @@ use Rattle.crash.specs.declared.records.SignalCode.{SignalCode}
 use Rattle.crash.specs.declared.records.Sender.{Sender}
 use Rattle.crash.specs.Cause.{ExceptionValue}
 use Rattle.crash.specs.Records.{signal_code_name}
-use Rattle.crash_text.specs.Words.{id_text}
-
--- a number after these words, and nothing for 0
-abbrev pub unless_zero : List ℕ → ℕ → List ℕ
-unless_zero words n = if n == 0 then [] else concat (words ∷ hex n ∷ [])
+use Rattle.crash_text.specs.Words.{hex_unless, id_words}
 
 -- how memory was accessed
 abbrev pub access_words : Option Access → List ℕ
@@ -30,7 +25,7 @@ user_words None = []
 
 -- the process that sent a signal, by its id
 abbrev pub process_words : Option ℕ → List ℕ
-process_words (Some id) = id_text (codes ", sent by process ") id
+process_words (Some id) = codes ", sent by process " ++ id_words id
 process_words None = codes ", sent by an unknown process"
 
 -- how it was sent, by the name of its `si_code`
@@ -54,8 +49,8 @@ parameters_words (first ∷ others) = concat (codes ", parameters " ∷ hex firs
 
 -- all of it, with these flags and parameters
 abbrev pub record_words : ExceptionValue → ℕ → List ℕ → List ℕ
-record_words e flags parameters = unless_zero (codes ", flags ") flags
-    ++ (unless_zero (codes ", nested record at ") e.nested
+record_words e flags parameters = hex_unless 0 (codes ", flags ") (Some flags)
+    ++ (hex_unless 0 (codes ", nested record at ") (Some e.nested)
     ++ (access_words e.access ++ (sender_words e.sender ++ parameters_words parameters)))
 
 -- LLDB's description of an exception is written over its parameters, by a mark in its flags:
@@ -67,12 +62,3 @@ words_beside None e = record_words e e.flags e.parameters
 -- all of it
 abbrev pub record_text : ExceptionValue → List ℕ
 record_text e = words_beside e.description e
-
--- LLDB's description of an exception, if there is one
-abbrev pub description_words : Option (List ℕ) → List ℕ
-description_words (Some text) = concat (codes ", " ∷ text ∷ [])
-description_words None = []
-
--- the same words of a record with the description
-abbrev pub described_text : ExceptionValue → List ℕ
-described_text e = record_text e ++ description_words e.description

@@ -1,6 +1,5 @@
 -- The lines of the registers of a crash.
-use Rattle.std.specs.Prelude.{ℕ, ◌++◌, ◌==◌, List, [], ◌∷◌, map, min, Option, Some}
-use Rattle.std.specs.Prelude.{None, codes, if◌then◌else◌}
+use Rattle.std.specs.Prelude.{ℕ, ◌++◌, List, [], ◌∷◌, map, min, Option, Some, None, codes}
 use Rattle.std.specs.Fmt.{decimal}
 use Rattle.std.specs.List.{concat, flat_map}
 use Rattle.std.specs.Option.{option_and_then}
@@ -15,6 +14,8 @@ use Rattle.crash.specs.Cause.{ExceptionValue}
 use Rattle.crash.specs.Contexts.{ContextValue}
 use Rattle.crash.specs.Crash.{CrashValue}
 use Rattle.crash.specs.Threads.{crashed_thread}
+use Rattle.crash_text.specs.Lines.{table}
+use Rattle.crash_text.specs.Words.{count_if}
 
 -- the words for a register of `size` bytes: its name in three columns, and its value with two
 -- digits for each byte, of at most 8
@@ -32,10 +33,11 @@ rows (a ∷ b ∷ c ∷ d ∷ rest) = (a ∷ b ∷ c ∷ d ∷ []) ∷ rows rest
 rows [] = []
 rows few = few ∷ []
 
--- how much there is of a context that is cut, after other words
-unfoldable pub short_row : List ℕ → List ℕ → ShortContext → List ℕ
-short_row first second s = concat (first ∷ second ∷ codes "context of " ∷ decimal s.size
-    ∷ codes " of " ∷ decimal s.whole ∷ codes " bytes" ∷ [])
+-- how much there is of a context, where it is cut, after words
+abbrev pub short_if : List ℕ → Option ShortContext → List ℕ
+short_if words (Some s) = concat (words ∷ codes "context of " ∷ decimal s.size ∷ codes " of "
+    ∷ decimal s.whole ∷ codes " bytes" ∷ [])
+short_if words None = []
 
 -- whose registers they are
 abbrev pub heading_of : ContextOrigin → List ℕ
@@ -43,15 +45,15 @@ heading_of OfException = codes "registers at the exception"
 heading_of OfThread = codes "registers of the thread when the dump was written"
 
 -- the line of whose registers they are, and how much of their context there is, where it is cut
-abbrev pub heading_row : ContextOrigin → Option ShortContext → List ℕ
-heading_row origin None = heading_of origin
-heading_row origin (Some s) = short_row (heading_of origin) (codes ", from a ") s
+unfoldable pub heading_row : ContextOrigin → Option ShortContext → List ℕ
+heading_row origin short =
+    concat (heading_of origin ∷ short_if (codes ", from a ") short ∷ [])
 
 -- that the context of an exception isn't used since it is no context of the processor, with its
 -- size in bytes. One that is outside the file is a line of damage, and one of 0 bytes has no line
 unfoldable pub unused_lines : Option ContextProblem → List (List ℕ)
-unused_lines (Some (NotAccepted size)) = if size == 0 then [] else concat (
-    codes "the context of the exception can't be read, " ∷ decimal size ∷ codes " bytes" ∷ []) ∷ []
+unused_lines (Some (NotAccepted size)) = table ((
+    count_if (codes "the context of the exception can't be read, ") size (codes " bytes") ∷ []) ∷ [])
 unused_lines _ = []
 
 -- the registers of the thread that crashed, or that there are none that can be read

@@ -13,80 +13,69 @@ use Rattle.minidump.specs.Below.System.Os.{os_name}
 use Rattle.crash.specs.Crash.{CrashValue}
 use Rattle.crash.specs.Process.{ProcessFacts, SystemValue}
 use Rattle.crash.specs.Release.{ReleaseValue}
-use Rattle.crash_text.specs.Lines.{if_ok, if_some}
-use Rattle.crash_text.specs.Words.{id_text, missing_lines, or_empty, text_lines, text_row}
-use Rattle.crash_text.specs.Words.{unless_empty}
+use Rattle.crash_text.specs.Lines.{if_ok, if_some, table}
+use Rattle.crash_text.specs.Words.{decimal_if, id_if, missing_lines, or_empty, text_after, text_if}
 
 -- the name of an operating system, with its number where it is unknown
 abbrev pub system_name : Os → List ℕ
 system_name (Unknown number) = concat (codes "unknown " ∷ hex number ∷ [])
 system_name os = os_name os
 
--- the line of a system by the names of its kind and of its processor: its version and its build,
--- and how many processors there are
-unfoldable pub system_row : List ℕ → List ℕ → SystemValue → List ℕ
-system_row os cpu s = concat (codes "system  " ∷ os ∷ codes " " ∷ s.version
-    ∷ unless_empty (codes " ") (or_empty s.build) ∷ or_empty s.build ∷ codes " on " ∷ cpu
+-- a system: its kind, its version and its build, and its processors, with the description of a
+-- processor and the version of the microcode
+unfoldable pub system_lines : SystemValue → List (List ℕ)
+system_lines s = table (
+    (codes "system  " ∷ system_name s.os ∷ codes " " ∷ s.version
+    ∷ text_after (codes " ") (or_empty s.build) ∷ codes " on " ∷ cpu_name s.cpu
     ∷ codes ", processors: " ∷ decimal s.processors ∷ [])
-
--- the same by its value alone
-abbrev pub system_line : SystemValue → List ℕ
-system_line s = system_row (system_name s.os) (cpu_name s.cpu) s
-
--- the lines of a system, with the description of its processor and the version of the microcode
-abbrev pub known_system_lines : SystemValue → List (List ℕ)
-known_system_lines s = system_line s
-    ∷ (text_lines (codes "processor ") s.cpu_model ++ text_lines (codes "microcode ") s.microcode)
-
--- the system, or that its information is missing
-abbrev pub system_lines : CrashValue → List (List ℕ)
-system_lines c = if_some known_system_lines c.process.system
-    ++ missing_lines (codes "no system information") c.contents.system.system
+    ∷ (text_if (codes "processor ") s.cpu_model [] ∷ [])
+    ∷ (text_if (codes "microcode ") s.microcode [] ∷ [])
+    ∷ [])
 
 -- the line of a release of Linux: its name, its number, its code name and its description, those
 -- that are there
 unfoldable pub release_line : ReleaseValue → List ℕ
 release_line r = concat (codes "release"
-    ∷ unless_empty (codes " ") (or_empty r.id) ∷ or_empty r.id
-    ∷ unless_empty (codes " ") (or_empty r.release) ∷ or_empty r.release
-    ∷ unless_empty (codes " ") (or_empty r.codename) ∷ or_empty r.codename
-    ∷ unless_empty (codes " ") (or_empty r.description) ∷ or_empty r.description ∷ [])
+    ∷ text_after (codes " ") (or_empty r.id) ∷ text_after (codes " ") (or_empty r.release)
+    ∷ text_after (codes " ") (or_empty r.codename)
+    ∷ text_after (codes " ") (or_empty r.description) ∷ [])
 
 -- the arguments with which macOS was booted, where they are there
-abbrev pub boot_lines : BootArgs → List (List ℕ)
-boot_lines b = text_lines (codes "boot arguments ") b.text
+unfoldable pub boot_lines : BootArgs → List (List ℕ)
+boot_lines b = table ((text_if (codes "boot arguments ") b.text [] ∷ []) ∷ [])
 
--- when the dump was written, by the time stamp of its header; 0 says nothing
+-- a time stamp as a date after words; 0 says nothing
+abbrev pub date_after : List ℕ → ℕ → List ℕ
+date_after words stamp = if stamp == 0 then [] else concat (words ∷ date_text_of stamp ∷ [])
+
+-- when the dump was written, by the time stamp of its header
 unfoldable pub date_lines : ℕ → List (List ℕ)
-date_lines stamp =
-    if stamp == 0 then [] else text_row (codes "dumped  ") (date_text_of stamp) ∷ []
-
--- the line of an amount between these words
-unfoldable pub amount_row : List ℕ → ℕ → List ℕ → List ℕ
-amount_row what amount unit = concat (what ∷ decimal amount ∷ unit ∷ [])
-
--- the command line of the process, and the comments of the dump
-abbrev pub said_lines : ProcessFacts → List (List ℕ)
-said_lines p = text_lines (codes "command ") p.command_line
-    ++ (text_lines (codes "comment ") p.comments.narrow
-    ++ text_lines (codes "comment ") p.comments.wide)
-
--- its numbers: its id and that of its parent, for how long it ran, and how much of it was in memory
-abbrev pub number_lines : ProcessFacts → List (List ℕ)
-number_lines p = if_some (λ id. id_text (codes "process ") id ∷ []) p.id
-    ++ (if_some (λ id. id_text (codes "parent  ") id ∷ []) p.parent
-    ++ (if_some (λ n. amount_row (codes "uptime  ") n (codes " s") ∷ []) p.uptime
-    ++ if_some (λ n. amount_row (codes "resident ") n (codes " bytes") ∷ []) p.resident))
+date_lines stamp = table ((date_after (codes "dumped  ") stamp ∷ []) ∷ [])
 
 -- the threads that requested and wrote the dump, by Breakpad's information
-abbrev pub breakpad_lines : MinidumpBreakpadInfo → List (List ℕ)
-breakpad_lines b =
-    if_some (λ id. id_text (codes "dump requested by thread ") id ∷ []) b.requesting_thread_id
-    ++ if_some (λ id. id_text (codes "dump written by thread ") id ∷ []) b.dump_thread_id
+unfoldable pub breakpad_lines : MinidumpBreakpadInfo → List (List ℕ)
+breakpad_lines b = table (
+    (id_if (codes "dump requested by thread ") b.requesting_thread_id ∷ [])
+    ∷ (id_if (codes "dump written by thread ") b.dump_thread_id ∷ [])
+    ∷ [])
 
--- all of them
+-- the process: its id and that of its parent, for how long it ran, how much of it was in memory,
+-- and its command line; and the comments of the dump
+unfoldable pub process_lines : ProcessFacts → List (List ℕ)
+process_lines p = table (
+    (id_if (codes "process ") p.id ∷ [])
+    ∷ (id_if (codes "parent  ") p.parent ∷ [])
+    ∷ (decimal_if (codes "uptime  ") p.uptime (codes " s") ∷ [])
+    ∷ (decimal_if (codes "resident ") p.resident (codes " bytes") ∷ [])
+    ∷ (text_if (codes "command ") p.command_line [] ∷ [])
+    ∷ (text_if (codes "comment ") p.comments.narrow [] ∷ [])
+    ∷ (text_if (codes "comment ") p.comments.wide [] ∷ [])
+    ∷ [])
+
+-- all of them, or that the system information is missing
 abbrev pub head_lines : CrashValue → List (List ℕ)
-head_lines c = system_lines c ++ (if_some (λ r. release_line r ∷ []) c.process.release
+head_lines c = if_some system_lines c.process.system
+    ++ (missing_lines (codes "no system information") c.contents.system.system
+    ++ (if_some (λ r. release_line r ∷ []) c.process.release
     ++ (if_ok boot_lines c.contents.messages.mac_boot_args ++ (date_lines c.directory.written
-    ++ (if_ok breakpad_lines c.contents.system.breakpad
-    ++ (number_lines c.process ++ said_lines c.process)))))
+    ++ (if_ok breakpad_lines c.contents.system.breakpad ++ process_lines c.process)))))

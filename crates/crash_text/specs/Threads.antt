@@ -13,28 +13,27 @@ use Rattle.crash_symbols.specs.Backtraces.{BacktraceValue}
 use Rattle.crash_symbols.specs.Shown.{shown_in}
 use Rattle.crash_text.specs.declared.limits.TextLimits.{TextLimits}
 use Rattle.crash_text.specs.Frames.{printed_frames, walk_lines}
-use Rattle.crash_text.specs.Lines.{if_some}
+use Rattle.crash_text.specs.Lines.{if_some, table}
 use Rattle.crash_text.specs.Page.{PageValue}
-use Rattle.crash_text.specs.Registers.{short_row}
-use Rattle.crash_text.specs.Words.{id_text, missing_lines, or_empty, text_lines, where_some}
-use Rattle.crash_text.specs.Words.{words_if}
+use Rattle.crash_text.specs.Registers.{short_if}
+use Rattle.crash_text.specs.Words.{id_words, missing_lines, text_if, words_if}
 
 -- ---- a thread
 
--- the line of a thread: its id, its name where it has one, and whether the list of threads lacks it
-unfoldable pub thread_row : ThreadValue → List ℕ
-thread_row t = concat (id_text (codes "thread ") t.id ∷ where_some (codes " \"") t.name
-    ∷ or_empty t.name ∷ where_some (codes "\"") t.name
+-- the line of a thread: its id, its name where it has one, and whether the list of threads lacks it;
+-- its last error; and how much there is of the context of its registers, where that is cut
+unfoldable pub heading_lines : ThreadValue → List (List ℕ)
+heading_lines t = table (
+    (codes "thread " ∷ id_words t.id ∷ text_if (codes " \"") t.name (codes "\"")
     ∷ words_if (not t.is_listed) (codes ", not in the list of threads") ∷ [])
+    ∷ (text_if (codes "    last error ") t.last_error [] ∷ [])
+    ∷ (short_if (codes "    ") (short_context t) ∷ [])
+    ∷ [])
 
--- how much there is of the context of its registers, where that is cut
-abbrev pub short_lines : ThreadValue → List (List ℕ)
-short_lines t = if_some (λ s. short_row (codes "    ") [] s ∷ []) (short_context t)
-
--- the line of a range of addresses
+-- the line of a range of addresses after words
 unfoldable pub range_row : List ℕ → StackRange → List ℕ
-range_row what range = concat (codes "    " ∷ what ∷ codes " " ∷ hex range.base ∷ codes ", "
-    ∷ hex range.size ∷ codes " bytes" ∷ [])
+range_row words range =
+    concat (words ∷ hex range.base ∷ codes ", " ∷ hex range.size ∷ codes " bytes" ∷ [])
 
 -- a range is another
 abbrev pub is_range : StackRange → Option StackRange → Bool
@@ -44,11 +43,11 @@ is_range range None = false
 -- the memory of a stack, where it isn't the stack as its entry names it
 abbrev pub memory_lines : Option StackRange → StackRange → List (List ℕ)
 memory_lines stack memory =
-    if is_range memory stack then [] else range_row (codes "stack memory") memory ∷ []
+    if is_range memory stack then [] else range_row (codes "    stack memory ") memory ∷ []
 
 -- the stack of a thread as its entry names it, and its memory
 abbrev pub stack_lines : Option StackRange → Option StackRange → List (List ℕ)
-stack_lines stack memory = if_some (λ range. range_row (codes "stack") range ∷ []) stack
+stack_lines stack memory = if_some (λ range. range_row (codes "    stack ") range ∷ []) stack
     ++ if_some (memory_lines stack) memory
 
 -- why a thread has no frames
@@ -72,10 +71,9 @@ found_lines p is_whole t None = no_walk_row p.crash.process.system t.context_pro
 
 -- a thread by its index, with its stack and the end of its walk if all of its frames are asked for
 abbrev pub thread_lines : PageValue → Bool → ℕ → ThreadValue → List (List ℕ)
-thread_lines p is_whole number t = thread_row t
-    ∷ (text_lines (codes "    last error ") t.last_error ++ (short_lines t
+thread_lines p is_whole number t = heading_lines t
     ++ ((if is_whole then stack_lines t.stack t.stack_memory else [])
-    ++ found_lines p is_whole t (shown_in p.symbols number t))))
+    ++ found_lines p is_whole t (shown_in p.symbols number t))
 
 -- ---- threads
 

@@ -1,13 +1,14 @@
 -- Words of lines.
 use Rattle.std.specs.Prelude.{ℕ, Bool, List, [], ◌∷◌, Option, Some, None, Result, Ok, Err, codes}
-use Rattle.std.specs.Prelude.{if◌then◌else◌, slice_get, unwrap_or}
+use Rattle.std.specs.Prelude.{if◌then◌else◌, ◌++◌, ◌==◌, slice_get, unwrap_or}
 use Rattle.std.specs.Fmt.{decimal}
 use Rattle.std.specs.List.{concat}
+use Rattle.std.specs.Str.Lossy.{utf8_lossy}
 use Rattle.minidump.specs.declared.Error.{Error}
 use Rattle.minidump.specs.Below.Bytes.Piece.{hex}
+use Rattle.minidump.specs.Below.Format.Error.{name_of_error}
 use Rattle.crash.specs.Missing.{is_missing}
 use Rattle.crash.specs.Modules.{LoadedValue}
-use Rattle.crash_text.specs.Lines.{if_some}
 
 -- a text, or an empty one where there is none
 abbrev pub or_empty : Option (List ℕ) → List ℕ
@@ -17,27 +18,74 @@ or_empty text = unwrap_or text []
 abbrev pub words_if : Bool → List ℕ → List ℕ
 words_if is_so words = if is_so then words else []
 
--- words before a text, and none before an empty one
-abbrev pub unless_empty : List ℕ → List ℕ → List ℕ
-unless_empty words [] = []
-unless_empty words (_ ∷ _) = words
+-- ---- the words that a part of a row writes
 
--- words around a text, and none where there is none
-abbrev pub where_some : List ℕ → Option (List ℕ) → List ℕ
-where_some words (Some _) = words
-where_some words None = []
+-- a number in decimal between words, where there is one
+abbrev pub decimal_if : List ℕ → Option ℕ → List ℕ → List ℕ
+decimal_if before (Some n) after = concat (before ∷ decimal n ∷ after ∷ [])
+decimal_if before None after = []
 
--- the line of a text after its words
-unfoldable pub text_row : List ℕ → List ℕ → List ℕ
-text_row words text = concat (words ∷ text ∷ [])
+-- a count between words, and nothing for 0
+abbrev pub count_if : List ℕ → ℕ → List ℕ → List ℕ
+count_if before n after = if n == 0 then [] else concat (before ∷ decimal n ∷ after ∷ [])
 
--- the same, where there is a text
-abbrev pub text_lines : List ℕ → Option (List ℕ) → List (List ℕ)
-text_lines words text = if_some (λ text. text_row words text ∷ []) text
+-- a number in hexadecimal after words, where there is one
+abbrev pub hex_if : List ℕ → Option ℕ → List ℕ
+hex_if words (Some n) = concat (words ∷ hex n ∷ [])
+hex_if words None = []
 
--- the id of a process or a thread after its words
-unfoldable pub id_text : List ℕ → ℕ → List ℕ
-id_text words id = concat (words ∷ decimal id ∷ codes " (" ∷ hex id ∷ codes ")" ∷ [])
+-- the same, where it isn't this one
+abbrev pub hex_unless : ℕ → List ℕ → Option ℕ → List ℕ
+hex_unless known words (Some n) = if n == known then [] else concat (words ∷ hex n ∷ [])
+hex_unless known words None = []
+
+-- a number in hexadecimal, or words where there is none
+abbrev pub hex_or : Option ℕ → List ℕ → List ℕ
+hex_or (Some n) words = hex n
+hex_or None words = words
+
+-- the id of a process or a thread, in decimal and in hexadecimal
+abbrev pub id_words : ℕ → List ℕ
+id_words id = concat (decimal id ∷ codes " (" ∷ hex id ∷ codes ")" ∷ [])
+
+-- the same after words, where it is known
+abbrev pub id_if : List ℕ → Option ℕ → List ℕ
+id_if words (Some id) = words ++ id_words id
+id_if words None = []
+
+-- a text between words, where there is one
+abbrev pub text_if : List ℕ → Option (List ℕ) → List ℕ → List ℕ
+text_if before (Some text) after = concat (before ∷ text ∷ after ∷ [])
+text_if before None after = []
+
+-- a text after words, where it isn't empty
+abbrev pub text_after : List ℕ → List ℕ → List ℕ
+text_after words [] = []
+text_after words (b ∷ bs) = concat (words ∷ (b ∷ bs) ∷ [])
+
+-- a text of Linux after words, where there is one, with U+FFFD for what isn't UTF-8
+abbrev pub lossy_if : List ℕ → Option (List ℕ) → List ℕ
+lossy_if words (Some text) = concat (words ∷ utf8_lossy text ∷ [])
+lossy_if words None = []
+
+-- the name of an error after a colon, where there is one
+abbrev pub error_words : Option Error → List ℕ
+error_words (Some error) = concat (codes ": " ∷ name_of_error error ∷ [])
+error_words None = []
+
+-- the words for an offset in a module
+abbrev pub in_module : ℕ → List ℕ → Option LoadedValue → List ℕ
+in_module offset nowhere (Some m) = concat (codes " in " ∷ m.path ∷ codes "+" ∷ hex offset ∷ [])
+in_module offset nowhere None = nowhere
+
+-- the words for a place, by the index of a module and the offset in it, or these words where there
+-- is none
+abbrev pub place_text : List LoadedValue → List ℕ → Option (ℕ × ℕ) → List ℕ
+place_text modules nowhere (Some place) =
+    in_module place.1 nowhere (slice_get modules place.0)
+place_text modules nowhere None = nowhere
+
+-- ---- lines
 
 -- the line of the number of something
 unfoldable pub count_row : List ℕ → ℕ → List ℕ
@@ -51,15 +99,3 @@ if_missing words e = if is_missing e then words ∷ [] else []
 abbrev pub missing_lines : {V : Type 0} → List ℕ → Result V Error → List (List ℕ)
 missing_lines words (Ok _) = []
 missing_lines words (Err e) = if_missing words e
-
--- the words for an offset in a module
-abbrev pub in_module : ℕ → List ℕ → Option LoadedValue → List ℕ
-in_module offset nowhere (Some m) = concat (codes " in " ∷ m.path ∷ codes "+" ∷ hex offset ∷ [])
-in_module offset nowhere None = nowhere
-
--- the words for a place, by the index of a module and the offset in it, or these words where there
--- is none
-abbrev pub place_text : List LoadedValue → List ℕ → Option (ℕ × ℕ) → List ℕ
-place_text modules nowhere (Some place) =
-    in_module place.1 nowhere (slice_get modules place.0)
-place_text modules nowhere None = nowhere

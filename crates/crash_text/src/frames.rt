@@ -1,20 +1,22 @@
-ghost use Rattle.std.specs.Prelude.{◌≡◌, [], ◌∷◌, IfOk, map};
+//! The lines of the frames of a thread, and of the inlined calls in their functions.
+ghost use Rattle.std.specs.Prelude.{◌≡◌, ◌++◌, [], ◌∷◌, IfOk, OnOk, map};
 ghost use Rattle.crash.specs.Modules.{loaded_of};
+ghost use Rattle.crash_symbols.specs.NameParts.{call_of};
 ghost use Rattle.crash_symbols.specs.Shown.{shown_frame_of, shown_of};
-ghost use Rattle.crash_text.specs.Frames.{each_entry, end_text, entry_line, entry_of, lines_if_any};
-ghost use Rattle.crash_text.specs.Frames.{printed_frames, rest_lines, walk_lines};
+ghost use Rattle.crash_text.specs.Frames.{call_entry, each_entry, end_text, entries_in, entry_line};
+ghost use Rattle.crash_text.specs.Frames.{entry_of, found_text, printed_frames, rest_lines};
+ghost use Rattle.crash_text.specs.Frames.{walk_lines};
 ghost use Rattle.crash_text.specs.Lines.{Adds};
 ghost use Rattle.crash_text.specs.Page.{page_of};
 
-use crate::entries::{FrameEntry, entries_in, found_text, name_text, source_text};
 use crate::limits::TextLimits;
-use crate::lines::{Added, push_line};
+use crate::lines::{Added, push_row, push_table};
 use crate::page::Page;
-use crate::words::place_text;
-use crash::CrashModule;
-use crash_symbols::{ShownFrame, ShownWalk, first_of};
-use minidump::text::Piece::{Decimal, Hex, Words};
-use stack_walk::WalkEnd;
+use crate::parts::Part::{Count, Decimal, Hex, HexIf, Lossy, Place, Source, Words};
+use crash::{CrashFrame, CrashModule};
+use crash_symbols::{InlinedCall, ShownFrame, ShownWalk, SourceLine, first_of};
+use minidump_bytes::LinuxOsStr;
+use stack_walk::{FrameTrust, WalkEnd};
 use std::alloc::{AllocError, Global};
 use symbol_walk::SymbolWalkEnd;
 
@@ -33,7 +35,7 @@ pub(crate) fn push_walk(
     let frames = printed_frames(alloc, page.limits, is_whole, walk)?;
     let entries = entries_in(alloc, frames.as_slice())?;
     let modules = page.crash.modules.loaded.as_slice();
-    push_each(out, modules, entries.as_slice())?;
+    push_entries(out, modules, entries.as_slice())?;
     if is_whole {
         push_rest(out, page.limits, walk)
     } else {
@@ -59,8 +61,69 @@ pub(crate) fn printed_frames<'s, 'l>(
     }
 }
 
+// ---- frames and the inlined calls there
+
+// A frame, or an inlined call there.
+#[derive(Clone, Copy)]
+struct FrameEntry<'l> {
+    frame: CrashFrame,
+    function: Option<LinuxOsStr<'l>>,
+    // how far the frame is behind the first of the function
+    offset: Option<u64>,
+    source: Option<SourceLine<'l>>,
+    is_inline: bool,
+}
+
+// Returns frames, before each the inlined calls there.
+#[tactic(auto, unfolding(crate::specs::Frames::entries_in))]
+fn entries_in<'l>(
+    alloc: Global,
+    frames: &[ShownFrame<'_, 'l>],
+) -> Result<Vec<FrameEntry<'l>>, AllocError>
+    ensures { IfOk result
+        (λ entries. map entry_of entries.items ≡ entries_in (map shown_frame_of frames.now)) }
+{
+    let mut entries = Vec::new(alloc);
+    for frame in frames {
+        push_calls(&mut entries, frame.frame, frame.inlines)?;
+        entries.push(FrameEntry {
+            frame: frame.frame,
+            function: frame.function.map(|function| function.name),
+            offset: frame.function.map(|function| function.offset),
+            source: frame.line,
+            is_inline: false,
+        })?;
+    }
+    Ok(entries)
+}
+
+// Appends inlined calls at a frame to a list.
+fn push_calls<'l>(
+    entries: &mut Vec<FrameEntry<'l>>,
+    frame: CrashFrame,
+    calls: &[InlinedCall<'l>],
+) -> Added
+    ensures { OnOk result (map entry_of entries.new.items ≡ map entry_of entries.old.items
+        ++ map (call_entry frame) (map call_of calls.now)) }
+{
+    for call in calls {
+        entries.push(FrameEntry {
+            frame,
+            function: call.function,
+            offset: None,
+            source: call.source,
+            is_inline: true,
+        })?;
+    }
+    Ok(())
+}
+
 // Appends the lines of frames and calls, each with its number.
-fn push_each(out: &mut String, modules: &[CrashModule], entries: &[FrameEntry<'_>]) -> Added
+fn push_entries<'x>(
+    out: &mut String,
+    modules: &'x [CrashModule],
+    entries: &[FrameEntry<'x>],
+) -> Added
     ensures { Adds out.old out.new
         (each_entry (map loaded_of modules.now) (map entry_of entries.now)) result }
 {
@@ -73,48 +136,53 @@ fn push_each(out: &mut String, modules: &[CrashModule], entries: &[FrameEntry<'_
 // Appends the line of a frame or a call.
 #[rattlefmt::skip]
 #[tactic(auto, unfolding(crate::specs::Frames::entry_line))]
-fn push_entry(
+fn push_entry<'x>(
     out: &mut String,
-    modules: &[CrashModule],
+    modules: &'x [CrashModule],
     number: usize,
-    entry: &FrameEntry<'_>,
+    entry: &FrameEntry<'x>,
 ) -> Added
     ensures { Adds out.old out.new
         (entry_line (map loaded_of modules.now) number (entry_of entry.now) ∷ []) result }
 {
-    let alloc = *out.allocator();
-    let name = name_text(alloc, entry.function, entry.offset)?;
-    let source = source_text(alloc, entry.source)?;
-    let place = place_text(alloc, modules, " in no module", entry.frame.module)?;
     let address = entry.frame.address.unwrap_or(entry.frame.instruction);
     let found = found_text(entry.is_inline, entry.frame.trust);
-    push_line(out, &[
+    push_row(out, &[
         Words("    #"), Decimal(number as u64), Words(" "), Hex(address),
-        Words(name.as_str()), Words(source.as_str()), Words(place.as_str()), Words(found),
+        Lossy(" ", entry.function), HexIf(" + ", entry.offset), Source(entry.source),
+        Place(modules, " in no module", entry.frame.module), Words(found),
     ])
 }
 
+// Returns the words for how a frame was found, or that it is an inlined call.
+fn found_text(is_inline: bool, trust: FrameTrust) -> &'static str
+    ensures { result.now ≡ found_text is_inline trust }
+{
+    match (is_inline, trust) {
+        (true, _) => ", inline",
+        (false, FrameTrust::Context) => ", context",
+        (false, FrameTrust::Cfi) => ", call frame information",
+        (false, FrameTrust::FramePointer) => ", frame pointer",
+        (false, FrameTrust::Scan) => ", scan",
+        (false, FrameTrust::Link) => ", link register",
+    }
+}
+
+// ---- after the frames
+
 // Appends how many frames are not printed, why the walk ends, and how many candidates follow.
+#[rattlefmt::skip]
 #[tactic(auto, unfolding(crate::specs::Frames::rest_lines))]
 fn push_rest(out: &mut String, limits: &TextLimits, walk: &ShownWalk<'_, '_>) -> Added
     ensures { Adds out.old out.new (rest_lines limits.now (shown_of walk.now)) result }
 {
     let count = walk.frames.len() + walk.candidates.len();
     let hidden = count.saturating_sub(limits.frames);
-    push_if_any(out, "    and ", hidden, " more")?;
-    push_line(out, &[Words("    end: "), Words(end_text(walk.end))])?;
-    push_if_any(out, "    candidates: ", walk.candidates.len(), "")
-}
-
-// Appends the line of a count between its words, if it isn't 0.
-#[tactic(auto, unfolding(crate::specs::Frames::lines_if_any))]
-fn push_if_any<'t>(out: &mut String, before: &'t str, count: usize, after: &'t str) -> Added
-    ensures { Adds out.old out.new (lines_if_any before.now count after.now) result }
-{
-    match count {
-        0 => Ok(()),
-        _ => push_line(out, &[Words(before), Decimal(count as u64), Words(after)]),
-    }
+    push_table(out, &[
+        &[Count("    and ", hidden, " more")],
+        &[Words("    end: "), Words(end_text(walk.end))],
+        &[Count("    candidates: ", walk.candidates.len(), "")],
+    ])
 }
 
 // Returns why a walk ends, in words.

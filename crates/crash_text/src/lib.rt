@@ -67,9 +67,7 @@
 //! - It has no control character below 0x20 but the ends of its lines, and no 0x7f: [`text_of`].
 #![tactic(auto)]
 
-mod addresses;
 mod damage;
-mod entries;
 mod escape;
 mod exceptions;
 mod frames;
@@ -79,13 +77,11 @@ mod lists;
 mod messages;
 mod modules;
 mod page;
+mod parts;
 mod point;
-mod records;
-mod registers;
 mod system;
 mod text;
 mod threads;
-mod words;
 
 pub use limits::TextLimits;
 pub use lines::push_line;

@@ -1,4 +1,4 @@
-ghost use Rattle.std.specs.Prelude.{◌≡◌, [], ◌∷◌, IfOk, codes, map, string_bytes};
+ghost use Rattle.std.specs.Prelude.{◌≡◌, [], ◌∷◌, codes, map};
 ghost use Rattle.minidump.specs.Below.Contexts.Context.{map_ok};
 ghost use Rattle.minidump.specs.Below.MemoryLists.Unified.{unified_list, unified_regions};
 ghost use Rattle.minidump.specs.Promise.{handle_data_stream, linux_environ_stream};
@@ -6,30 +6,25 @@ ghost use Rattle.minidump.specs.Promise.{linux_proc_limits_stream, unloaded_modu
 ghost use Rattle.crash.specs.HandleKinds.{kind_of};
 ghost use Rattle.crash.specs.Modules.{unloaded_module_of};
 ghost use Rattle.crash_text.specs.Lines.{Adds, if_some};
-ghost use Rattle.crash_text.specs.Lists.{all_handles, entry_row, environment_lines, error_words};
-ghost use Rattle.crash_text.specs.Lists.{handles_lines, limits_lines, list_lines, lists_lines};
-ghost use Rattle.crash_text.specs.Lists.{memory_lines, process_lists_lines, region_line};
-ghost use Rattle.crash_text.specs.Lists.{unloaded_lines, variable_row};
+ghost use Rattle.crash_text.specs.Lists.{all_handles, environment_lines, handles_lines, limits_lines};
+ghost use Rattle.crash_text.specs.Lists.{list_lines, lists_lines, memory_lines};
+ghost use Rattle.crash_text.specs.Lists.{process_lists_lines, region_line, unloaded_lines};
+ghost use Rattle.crash_text.specs.Modules.{all_modules};
 ghost use Rattle.crash_text.specs.Page.{page_of};
 ghost use Rattle.crash_text.specs.Words.{count_row};
 
-use crate::damage::stream_text;
 use crate::limits::TextLimits;
-use crate::lines::{Added, Line, push_each, push_line};
-use crate::modules::{all_modules, end_text, key_text};
+use crate::lines::{Added, Line, push_count, push_each, push_row};
 use crate::page::Page;
-use crate::words::{or_empty, push_count, where_some};
+use crate::parts::Part::{Decimal, End, Failed, Hex, HexOr, Key, Lossy, Stream, Text, Words};
 use crash::{
     HandleKind, ProcessLimit, StreamEntry, UnloadedModule, limits_of, regions_of, variables_of,
 };
 use minidump::strings::LinuxOsStr;
-use minidump::text::Piece::{Decimal, Hex, Words};
-use minidump::text::format_pieces;
 use minidump::{
     Error, MinidumpHandleDataStream, MinidumpHandleDescriptor, MinidumpLinuxEnviron,
     MinidumpLinuxProcLimits, MinidumpUnloadedModuleList, UnifiedMemory, UnifiedMemoryList,
 };
-use std::alloc::{AllocError, Global};
 
 // Appends the number of items of a list, and their lines if they are asked for.
 #[tactic(auto, using(crate::proofs::LineLemmas::values))]
@@ -92,6 +87,13 @@ fn push_unloaded(
     }
 }
 
+// Tells whether all modules are asked for.
+fn all_modules(limits: &TextLimits) -> bool
+    ensures { result ≡ all_modules limits.now }
+{
+    limits.lists || limits.modules
+}
+
 impl Line for UnloadedModule {
     ghost use Rattle.crash.specs.Modules.{UnloadedModuleValue};
     ghost use Rattle.crash_text.specs.Lists.{unloaded_line};
@@ -105,12 +107,9 @@ impl Line for UnloadedModule {
     #[rattlefmt::skip]
     #[tactic(auto, unfolding(crate::specs::Lists::unloaded_line))]
     fn push(&self, out: &mut String) -> Added {
-        let alloc = *out.allocator();
-        let end = end_text(alloc, true, self.end)?;
-        let code = key_text(alloc, ", code ", Some(&self.file), &self.code_id)?;
-        push_line(out, &[
-            Words("    "), Hex(self.base), Words(end.as_str()), Words(" "),
-            Words(self.path.as_str()), Words(code.as_str()),
+        push_row(out, &[
+            Words("    "), Hex(self.base), End(true, self.end), Words(" "),
+            Words(self.path.as_str()), Key(", code ", Some(&self.file), &self.code_id),
         ])
     }
 }
@@ -125,37 +124,14 @@ impl Line for StreamEntry {
 
     ghost line = { entry_line };
 
+    #[rattlefmt::skip]
+    #[tactic(auto, unfolding(crate::specs::Lists::entry_line))]
     fn push(&self, out: &mut String) -> Added {
-        let alloc = *out.allocator();
-        let name = stream_text(alloc, self.number)?;
-        let error = error_words(alloc, self.error)?;
-        push_stream_row(out, self, name.as_str(), error.as_str())
-    }
-}
-
-#[rattlefmt::skip]
-#[tactic(auto, unfolding(crate::specs::Lists::entry_row))]
-fn push_stream_row<'t>(
-    out: &mut String,
-    entry: &StreamEntry,
-    name: &'t str,
-    error: &'t str,
-) -> Added
-    ensures { Adds out.old out.new (entry_row entry.now name.now error.now ∷ []) result }
-{
-    push_line(out, &[
-        Words("    "), Words(name), Words(" ("), Hex(entry.number as u64), Words("), "),
-        Decimal(entry.size as u64), Words(" bytes at "), Hex(entry.rva as u64), Words(error),
-    ])
-}
-
-// Makes the words for why a stream can't be read, none if it can.
-fn error_words(alloc: Global, error: Option<Error>) -> Result<String, AllocError>
-    ensures { IfOk result (λ words. string_bytes words ≡ error_words error) }
-{
-    match error {
-        Some(error) => format_pieces(alloc, &[Words(": "), Words(error.name())]),
-        None => Ok(String::new(alloc)),
+        push_row(out, &[
+            Words("    "), Stream(self.number), Words(" ("), Hex(self.number as u64), Words("), "),
+            Decimal(self.size as u64), Words(" bytes at "), Hex(self.rva as u64),
+            Failed(self.error),
+        ])
     }
 }
 
@@ -202,7 +178,7 @@ impl Line for UnifiedMemory<'_, '_> {
     #[rattlefmt::skip]
     #[tactic(auto, unfolding(crate::specs::Lists::region_line))]
     fn push(&self, out: &mut String) -> Added {
-        push_line(out, &[
+        push_row(out, &[
             Words("    "), Hex(self.base_address()), Words(", "), Hex(self.size()), Words(" bytes"),
         ])
     }
@@ -245,6 +221,13 @@ fn push_handles(
     }
 }
 
+// Tells whether all handles are asked for.
+fn all_handles(limits: &TextLimits) -> bool
+    ensures { result ≡ all_handles limits.now }
+{
+    limits.lists || limits.handles
+}
+
 impl Line for HandleKind {
     ghost use Rattle.crash.specs.HandleKinds.{KindValue};
     ghost use Rattle.crash_text.specs.Lists.{kind_line};
@@ -258,17 +241,10 @@ impl Line for HandleKind {
     #[rattlefmt::skip]
     #[tactic(auto, unfolding(crate::specs::Lists::kind_line))]
     fn push(&self, out: &mut String) -> Added {
-        push_line(out, &[
+        push_row(out, &[
             Words("    "), Words(self.type_name.as_str()), Words(" "), Decimal(self.count as u64),
         ])
     }
-}
-
-// Tells whether all handles are asked for.
-fn all_handles(limits: &TextLimits) -> bool
-    ensures { result ≡ all_handles limits.now }
-{
-    limits.lists || limits.handles
 }
 
 impl Line for MinidumpHandleDescriptor {
@@ -284,15 +260,9 @@ impl Line for MinidumpHandleDescriptor {
     #[rattlefmt::skip]
     #[tactic(auto, unfolding(crate::specs::Lists::handle_line))]
     fn push(&self, out: &mut String) -> Added {
-        let alloc = *out.allocator();
-        let value = match self.raw.handle() {
-            Some(value) => format_pieces(alloc, &[Hex(*value)])?,
-            None => String::from_str(alloc, "no value")?,
-        };
-        let (kind, name) = (&self.type_name, &self.object_name);
-        push_line(out, &[
-            Words("    "), Words(value.as_str()), Words(where_some(" ", kind)), Words(or_empty(kind)),
-            Words(where_some(" \"", name)), Words(or_empty(name)), Words(where_some("\"", name)),
+        push_row(out, &[
+            Words("    "), HexOr(self.raw.handle().copied(), "no value"),
+            Text(" ", &self.type_name, ""), Text(" \"", &self.object_name, "\""),
         ])
     }
 }
@@ -331,10 +301,9 @@ impl Line for ProcessLimit {
     #[rattlefmt::skip]
     #[tactic(auto, unfolding(crate::specs::Lists::limit_line))]
     fn push(&self, out: &mut String) -> Added {
-        push_line(out, &[
+        push_row(out, &[
             Words("    "), Words(self.name.as_str()), Words(" soft "), Words(self.soft.as_str()),
-            Words(" hard "), Words(self.hard.as_str()), Words(where_some(" ", &self.unit)),
-            Words(or_empty(&self.unit)),
+            Words(" hard "), Words(self.hard.as_str()), Text(" ", &self.unit, ""),
         ])
     }
 }
@@ -376,18 +345,14 @@ impl Line for (LinuxOsStr<'_>, LinuxOsStr<'_>) {
 
     ghost line = { variable_line };
 
+    #[tactic(auto, unfolding(crate::specs::Lists::variable_line))]
     fn push(&self, out: &mut String) -> Added {
-        let alloc = *out.allocator();
-        let name = self.0.to_string_lossy(alloc)?;
-        let value = self.1.to_string_lossy(alloc)?;
-        push_variable_row(out, name.as_str(), value.as_str())
+        push_row(
+            out,
+            &[
+                Lossy("environment ", Some(self.0)),
+                Lossy("=", Some(self.1)),
+            ],
+        )
     }
-}
-
-#[rattlefmt::skip]
-#[tactic(auto, unfolding(crate::specs::Lists::variable_row))]
-fn push_variable_row<'t>(out: &mut String, name: &'t str, value: &'t str) -> Added
-    ensures { Adds out.old out.new (variable_row name.now value.now ∷ []) result }
-{
-    push_line(out, &[Words("environment "), Words(name), Words("="), Words(value)])
 }

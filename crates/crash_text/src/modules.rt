@@ -1,23 +1,18 @@
-ghost use Rattle.std.specs.Prelude.{◌≡◌, [], ◌∷◌, IfOk, string_bytes};
+ghost use Rattle.std.specs.Prelude.{◌≡◌, IfOk};
 ghost use Rattle.std.specs.Option.{option_copied, option_map};
-ghost use Rattle.crash.specs.Modules.{loaded_of};
 ghost use Rattle.crash_symbols.specs.Shown.{symbolized_of};
 ghost use Rattle.crash_text.specs.Lines.{Adds};
-ghost use Rattle.crash_text.specs.Modules.{HasMarks, all_modules, each_module, end_text, is_marked};
-ghost use Rattle.crash_text.specs.Modules.{key_text, module_at, module_line, modules_lines};
-ghost use Rattle.crash_text.specs.Modules.{named_modules, symbols_text, version_text};
+ghost use Rattle.crash_text.specs.Modules.{HasMarks, each_module, is_marked, module_at};
+ghost use Rattle.crash_text.specs.Modules.{modules_lines, named_modules, symbols_text};
 ghost use Rattle.crash_text.specs.Page.{page_of};
 
-use crate::limits::TextLimits;
-use crate::lines::{Added, push_line};
+use crate::lines::{Added, push_count, push_if_missing, push_row};
 use crate::page::Page;
+use crate::parts::Part::{End, Hex, Key, Version, Words};
 use crate::threads::frames_in;
-use crate::words::{push_count, push_if_missing};
-use crash::{AddressFacts, CrashFrame, CrashModule};
+use crash::{AddressFacts, CrashFrame};
 use crash_symbols::{SymbolState, Symbolized};
 use minidump::Error;
-use minidump::text::Piece::{Hex, Words};
-use minidump::text::format_pieces;
 use std::alloc::{AllocError, Global};
 
 // Appends the number of modules and those that are listed, or that their list is missing.
@@ -82,25 +77,25 @@ fn push_each(
 }
 
 // Appends the line of the module of an index, if all modules are asked for, or if it has the
-// address of the crash or a mark.
+// address of the crash or a mark: with its end if all are asked for.
+#[rattlefmt::skip]
+#[tactic(auto, unfolding(crate::specs::Modules::module_line))]
 fn push_at(out: &mut String, page: Page<'_, '_, '_, '_>, marks: &[bool], index: usize) -> Added
     ensures { Adds out.old out.new (module_at (page_of page.entry)
         (is_marked page.entry.crash.now.cause.address marks.now) index) result }
 {
-    let is_asked = all_modules(page.limits);
+    let is_asked = page.limits.lists || page.limits.modules;
     let is_named = is_marked(page.crash.cause.address, marks, index);
-    let words = symbols_text(page.symbols, index);
+    let symbols = symbols_text(page.symbols, index);
     match page.crash.modules.loaded.get(index) {
-        Some(module) if is_asked || is_named => push_module(out, is_asked, module, words),
+        Some(module) if is_asked || is_named => push_row(out, &[
+            Words("    "), Hex(module.base), End(is_asked, module.end), Words(" "),
+            Words(module.path.as_str()), Version(&module.version),
+            Key(", debug ", module.debug_file.as_ref(), &module.debug_id),
+            Key(", code ", Some(&module.file), &module.code_id), Words(symbols),
+        ]),
         _ => Ok(()),
     }
-}
-
-// Tells whether all modules are asked for.
-pub(crate) fn all_modules(limits: &TextLimits) -> bool
-    ensures { result ≡ all_modules limits.now }
-{
-    limits.lists || limits.modules
 }
 
 // Returns the words for why the module of an index has no symbols, if they were looked for.
@@ -128,70 +123,4 @@ fn is_marked(address: Option<AddressFacts>, marks: &[bool], index: usize) -> boo
         None => false,
     };
     is_at || matches!(marks.get(index), Some(true))
-}
-
-// Appends the line of a module, with its end if all modules are asked for, and with the words for
-// its symbols.
-#[rattlefmt::skip]
-#[tactic(auto, unfolding(crate::specs::Modules::module_line))]
-fn push_module(out: &mut String, is_asked: bool, module: &CrashModule, symbols: &str) -> Added
-    ensures { Adds out.old out.new
-        (module_line is_asked (loaded_of module.now) symbols.now ∷ []) result }
-{
-    let alloc = *out.allocator();
-    let end = end_text(alloc, is_asked, module.end)?;
-    let version = version_text(alloc, &module.version)?;
-    let debug = key_text(alloc, ", debug ", module.debug_file.as_ref(), &module.debug_id)?;
-    let code = key_text(alloc, ", code ", Some(&module.file), &module.code_id)?;
-    push_line(out, &[
-        Words("    "), Hex(module.base), Words(end.as_str()), Words(" "),
-        Words(module.path.as_str()), Words(version.as_str()), Words(debug.as_str()),
-        Words(code.as_str()), Words(symbols),
-    ])
-}
-
-// Makes the words for the address after a module, none if they aren't asked for or it isn't known.
-pub(crate) fn end_text(
-    alloc: Global,
-    is_asked: bool,
-    end: Option<u64>,
-) -> Result<String, AllocError>
-    ensures { IfOk result (λ words. string_bytes words ≡ end_text is_asked end) }
-{
-    match end {
-        Some(end) if is_asked => format_pieces(alloc, &[Words("-"), Hex(end)]),
-        _ => Ok(String::new(alloc)),
-    }
-}
-
-// Makes the words for a version, none if it says nothing.
-fn version_text(alloc: Global, version: &Option<String>) -> Result<String, AllocError>
-    ensures { IfOk result (λ words. string_bytes words
-        ≡ version_text (option_map string_bytes version.now)) }
-{
-    match version {
-        Some(version) if version.as_str() != "0.0.0.0" => {
-            format_pieces(alloc, &[Words(", version "), Words(version.as_str())])
-        }
-        _ => Ok(String::new(alloc)),
-    }
-}
-
-// Makes the words for the name of a file and an identifier, none if one of them is lacking.
-#[rattlefmt::skip]
-pub(crate) fn key_text<'x>(
-    alloc: Global,
-    label: &'x str,
-    file: Option<&'x String>,
-    id: &'x Option<String>,
-) -> Result<String, AllocError>
-    ensures { IfOk result (λ words. string_bytes words ≡ key_text label.now
-        (option_map string_bytes (option_copied file.entry)) (option_map string_bytes id.now)) }
-{
-    match (file, id) {
-        (Some(file), Some(id)) => format_pieces(alloc, &[
-            Words(label), Words(file.as_str()), Words("/"), Words(id.as_str()),
-        ]),
-        _ => Ok(String::new(alloc)),
-    }
 }

@@ -5,21 +5,17 @@ ghost use Rattle.crash.specs.Threads.{thread_value};
 ghost use Rattle.crash_text.specs.Lines.{Adds};
 ghost use Rattle.crash_text.specs.Page.{page_of};
 ghost use Rattle.crash_text.specs.Threads.{crashed_lines, each_other, frames_at, frames_in};
-ghost use Rattle.crash_text.specs.Threads.{is_index, is_range, no_walk_row, other_lines, own_lines};
-ghost use Rattle.crash_text.specs.Threads.{range_row, short_lines, shows_all, stack_lines};
-ghost use Rattle.crash_text.specs.Threads.{thread_lines, thread_row};
+ghost use Rattle.crash_text.specs.Threads.{heading_lines, is_index, is_range, no_walk_row};
+ghost use Rattle.crash_text.specs.Threads.{other_lines, own_lines, range_row, shows_all};
+ghost use Rattle.crash_text.specs.Threads.{stack_lines, thread_lines};
 
 use crate::frames::{printed_frames, push_walk};
 use crate::limits::TextLimits;
-use crate::lines::{Added, push_line};
+use crate::lines::{Added, push_if_missing, push_row, push_table};
 use crate::page::Page;
-use crate::registers::push_short;
-use crate::words::{
-    id_text, or_empty, push_if_missing, push_text, push_words, where_some, words_if,
-};
+use crate::parts::Part::{Hex, Id, If, Short, Text, Words};
 use crash::{ContextProblem, CrashFrame, CrashSystem, CrashThread, StackRange};
 use crash_symbols::shown_walk;
-use minidump::text::Piece::{Hex, Words};
 use std::alloc::{AllocError, Global};
 
 // Appends the lines of the thread that crashed, or that there are no threads.
@@ -96,70 +92,52 @@ fn push_thread(
     ensures { Adds out.old out.new
         (thread_lines (page_of page.entry) is_whole number (thread_value thread.now)) result }
 {
-    push_row(out, thread)?;
-    push_text(out, "    last error ", &thread.last_error)?;
-    push_if_short(out, thread)?;
-    push_stack_if(out, is_whole, thread)?;
+    push_heading(out, thread)?;
+    push_stack(out, is_whole, thread)?;
     match shown_walk(*out.allocator(), thread, number, page.symbols)? {
         Some(walk) => {
             push_own(out, thread.context_problem)?;
             push_walk(out, page, is_whole, &walk)
         }
-        None => push_words(
-            out,
-            no_walk_row(&page.crash.process.system, thread.context_problem),
-        ),
+        None => {
+            let why = no_walk_row(&page.crash.process.system, thread.context_problem);
+            push_row(out, &[Words(why)])
+        }
     }
 }
 
+// Appends the line of a thread, its last error, and how much there is of the context of its
+// registers if that is cut.
 #[rattlefmt::skip]
-#[tactic(auto, unfolding(crate::specs::Threads::thread_row))]
-fn push_row(out: &mut String, thread: &CrashThread) -> Added
-    ensures { Adds out.old out.new (thread_row (thread_value thread.now) ∷ []) result }
+#[tactic(auto, unfolding(crate::specs::Threads::heading_lines))]
+fn push_heading(out: &mut String, thread: &CrashThread) -> Added
+    ensures { Adds out.old out.new (heading_lines (thread_value thread.now)) result }
 {
-    let id = id_text(*out.allocator(), "thread ", thread.id)?;
-    let name = &thread.name;
-    push_line(out, &[
-        Words(id.as_str()), Words(where_some(" \"", name)), Words(or_empty(name)),
-        Words(where_some("\"", name)),
-        Words(words_if(!thread.is_listed, ", not in the list of threads")),
+    push_table(out, &[
+        &[
+            Words("thread "), Id(thread.id), Text(" \"", &thread.name, "\""),
+            If(!thread.is_listed, ", not in the list of threads"),
+        ],
+        &[Text("    last error ", &thread.last_error, "")],
+        &[Short("    ", thread.short_context())],
     ])
 }
 
-// Appends how much there is of the context of a thread's registers, if that is cut.
-fn push_if_short(out: &mut String, thread: &CrashThread) -> Added
-    ensures { Adds out.old out.new (short_lines (thread_value thread.now)) result }
-{
-    match thread.short_context() {
-        Some(short) => push_short(out, "    ", "", short),
-        None => Ok(()),
-    }
-}
-
-// Appends the lines of the stack of a thread, and of its memory, if all of its frames are asked
-// for.
-fn push_stack_if(out: &mut String, is_whole: bool, thread: &CrashThread) -> Added
+// Appends the line of the stack of a thread as its entry names it, if it does, and that of the
+// stack's memory, if it isn't the same: neither unless all frames of the thread are asked for.
+fn push_stack(out: &mut String, is_whole: bool, thread: &CrashThread) -> Added
     ensures { Adds out.old out.new (if is_whole
         then stack_lines thread.now.stack thread.now.stack_memory else []) result }
 {
-    if is_whole {
-        push_stack(out, &thread.stack, &thread.stack_memory)
-    } else {
-        Ok(())
+    if !is_whole {
+        return Ok(());
     }
-}
-
-// Appends the line of a stack as its entry names it, if it does, and that of its memory, if it isn't
-// the same.
-fn push_stack(out: &mut String, stack: &Option<StackRange>, memory: &Option<StackRange>) -> Added
-    ensures { Adds out.old out.new (stack_lines stack.now memory.now) result }
-{
-    if let Some(range) = stack {
-        push_range(out, "stack", range)?;
+    if let Some(range) = &thread.stack {
+        push_range(out, "    stack ", range)?;
     }
-    match memory {
-        Some(range) if is_range(range, stack) => Ok(()),
-        Some(range) => push_range(out, "stack memory", range),
+    match &thread.stack_memory {
+        Some(range) if is_range(range, &thread.stack) => Ok(()),
+        Some(range) => push_range(out, "    stack memory ", range),
         None => Ok(()),
     }
 }
@@ -179,9 +157,8 @@ fn is_range(range: &StackRange, other: &Option<StackRange>) -> bool
 fn push_range(out: &mut String, what: &str, range: &StackRange) -> Added
     ensures { Adds out.old out.new (range_row what.now range.now ∷ []) result }
 {
-    push_line(out, &[
-        Words("    "), Words(what), Words(" "), Hex(range.base), Words(", "), Hex(range.size),
-        Words(" bytes"),
+    push_row(out, &[
+        Words(what), Hex(range.base), Words(", "), Hex(range.size), Words(" bytes"),
     ])
 }
 
@@ -190,9 +167,11 @@ fn push_own(out: &mut String, problem: Option<ContextProblem>) -> Added
     ensures { Adds out.old out.new (own_lines problem) result }
 {
     match problem {
-        Some(ContextProblem::Outside) => push_words(out, "    its own context is outside the file"),
+        Some(ContextProblem::Outside) => {
+            push_row(out, &[Words("    its own context is outside the file")])
+        }
         Some(ContextProblem::NotAccepted { .. }) => {
-            push_words(out, "    its own context can't be read")
+            push_row(out, &[Words("    its own context can't be read")])
         }
         Some(ContextProblem::NoSystem) | None => Ok(()),
     }

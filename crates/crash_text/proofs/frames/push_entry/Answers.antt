@@ -4,15 +4,4 @@ use Rattle.crash_text.proofs.frames.push_entry.Goals as goal
 
 pub returns : goal.returns
 unfolding entry_line
-returns c =
-    rw (
-      ← c.in_ok-name.ensures,
-      ← c.in_ok-source.ensures,
-      ← c.in_ok-place.ensures,
-      ← c.found_text-found.ensures,
-      ← c.unwrap_or-address.ensures,
-      ← c.as_str.ensures.value,
-      ← c.as_str-2.ensures.value,
-      ← c.as_str-3.ensures.value,
-    )
-    c.push_line.ensures.ok
+returns c = rw (← c.unwrap_or-address.ensures, ← c.found_text-found.ensures) c.push_row.ensures

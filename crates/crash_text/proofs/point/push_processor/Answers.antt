@@ -1,4 +1,4 @@
--- The flags, those that are set, and the registers, one after another.
+-- The flags and the registers, one after another.
 use Rattle.std.proofs.Common.{append_assoc, append-nil}
 use Rattle.std.proofs.lemmas.Grind.{flat_map-append}
 use Rattle.crash_text.proofs.point.push_processor.Goals as goal
@@ -7,8 +7,7 @@ pub returns : goal.returns
 returns c =
     rw (
       c.in_ok-push_placed_registers.ensures,
-      c.in_ok-push_set.ensures,
-      c.in_ok-push_flags.ensures,
+      c.in_ok-push_flags_lines.ensures,
       c.as_slice.ensures.value,
       c.as_slice-2.ensures.value,
       c.as_slice-3.ensures.value,

@@ -4,7 +4,7 @@ use Rattle.crash.specs.Modules.{loaded_of}
 use Rattle.crash_text.specs.Frames.{entry_of}
 use Rattle.crash_text.specs.Frames.{entry_line}
 use Rattle.crash_text.proofs.NumberLemmas.{next_value}
-use Rattle.crash_text.proofs.frames.push_each.Goals as goal
+use Rattle.crash_text.proofs.frames.push_entries.Goals as goal
 
 pub loop-number-preserved : goal.loop-number-preserved
 loop-number-preserved c =

@@ -4,7 +4,7 @@ use Rattle.std.specs.List.{flat_map}
 use Rattle.std.specs.Slice.Iter.{chunks_rest, chunks_size}
 use Rattle.crash_text.specs.Lines.{line_of}
 use Rattle.crash_text.specs.Registers.{register_row, rows}
-use Rattle.crash_text.proofs.registers.push_rows.Given as goal
+use Rattle.crash_text.proofs.point.push_rows.Given as goal
 
 abbrev pub invariant-loop-row : goal.invariant-loop-row
 invariant-loop-row l = record {

@@ -5,7 +5,7 @@ use Rattle.crash.specs.Modules.{loaded_of}
 use Rattle.crash_text.specs.Frames.{entry_of}
 use Rattle.crash_text.specs.Frames.{each_entry}
 use Rattle.crash_text.specs.Lines.{line_of}
-use Rattle.crash_text.proofs.frames.push_each.Given as goal
+use Rattle.crash_text.proofs.frames.push_entries.Given as goal
 
 abbrev pub invariant-loop-number : goal.invariant-loop-number
 invariant-loop-number l = string_bytes l.out

@@ -5,9 +5,10 @@ use Rattle.std.specs.Slice.Iter.{chunks_rest}
 use Rattle.crash_text.specs.Registers.{register_row, rows}
 use Rattle.crash_text.proofs.LineLemmas.{last_line, next_line}
 use Rattle.crash_text.proofs.RowLemmas.{rows_next}
-use Rattle.crash_text.proofs.registers.push_rows.Goals as goal
+use Rattle.crash_text.proofs.point.push_rows.Goals as goal
 
 pub loop-row-preserved : goal.loop-row-preserved
+unfolding register_row
 loop-row-preserved c =
     let steps = c.in-Some.ensures.steps in
     let fits = rw c.loop-row.invariant.size at steps.1.1 in

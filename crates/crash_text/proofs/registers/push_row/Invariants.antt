@@ -1,8 +1,0 @@
--- The words of the registers so far.
-use Rattle.std.proofs.Common.{◌≡◌, map, string_bytes, take}
-use Rattle.std.specs.List.{flat_map}
-use Rattle.crash_text.specs.Registers.{register_words}
-use Rattle.crash_text.proofs.registers.push_row.Given as goal
-
-abbrev pub invariant-loop-register : goal.invariant-loop-register
-invariant-loop-register l = string_bytes l.words ≡ flat_map (register_words l.size) (map (λ r. (r.0.now, r.1)) (take l.register-index l.row))
