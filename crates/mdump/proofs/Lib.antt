@@ -4,4 +4,3 @@ pub mod ArgumentLemmas
 pub mod CommandLemmas
 pub mod ListLemmas
 pub mod PrintLemmas
-pub mod ReportLemmas

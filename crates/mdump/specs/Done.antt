@@ -1,23 +1,21 @@
 -- What the program writes.
 use Rattle.std.specs.Prelude.{◌≡◌, ◌↔◌, ◌⊎◌, ℕ, ◌≤◌, ◌++◌, List, [], ◌∷◌, bytes_eq, codes, Bool, true}
-use Rattle.std.specs.Prelude.{if◌then◌else◌, Option, Some, None, Result, Ok, Err}
-use Rattle.std.specs.Option.{option_map}
+use Rattle.std.specs.Prelude.{if◌then◌else◌, Option, Some, None, Result, Ok, Err, IfErr, IsErrAnd, ⊤}
+use Rattle.std.specs.Option.{option_map, option_or}
 use Rattle.std.specs.Result.{result_ok}
 use Rattle.minidump.specs.declared.Told.{Told}
 use Rattle.minidump.specs.Below.Bytes.Told.{PutsAll, PutsPrefix, has_failed}
 use Rattle.minidump.specs.declared.Error.{Error}
 use Rattle.minidump.specs.declared.Error.TheVariants.{IoError, OutOfMemory}
 use Rattle.minidump.specs.Below.Format.Error.{name_of_error}
-use Rattle.minidump.specs.Below.Format.Print.{out_of_memory}
+use Rattle.minidump.specs.Below.Format.Print.{Prints}
 use Rattle.minidump.specs.Below.MemoryLists.Memory.{range_of_region}
-use Rattle.minidump.specs.Below.MemoryLists.Unified.{unified_regions}
-use Rattle.minidump.specs.Below.MemoryLists.MapLine.{MapRegion}
-use Rattle.minidump.specs.Below.MemoryLists.MemoryInfo.{MemoryInfo}
+use Rattle.minidump.specs.Below.MemoryLists.Unified.{UnifiedRegions, unified_regions}
 use Rattle.minidump.specs.Below.MemoryLists.UnifiedInfo.{InfoRegions, OfInfo, OfMaps}
 use Rattle.minidump.specs.Below.MemoryLists.UnifiedInfo.{range_of_info_region, info_regions}
-use Rattle.minidump.specs.Below.Modules.Module.{range_of_module}
-use Rattle.minidump.specs.Dump.{Dump, stream_of}
-use Rattle.minidump.specs.File.{IsFileDump, IsPathError}
+use Rattle.minidump.specs.Below.Modules.Module.{ModuleValue, range_of_module}
+use Rattle.minidump.specs.Dump.{Dump, IsDumpErrorOr, dump_in, stream_of}
+use Rattle.minidump.specs.File.{IsFile, ReadsFile}
 use Rattle.minidump.specs.Memory.{memories_of_dump}
 use Rattle.minidump.specs.Modules.{modules_of_dump}
 use Rattle.minidump.specs.Promise.{linux_maps_stream, memory_info_list_stream}
@@ -48,25 +46,24 @@ told_of [] = Some usage
 told_of (word ∷ []) = told_by word
 told_of (word ∷ next ∷ words) = None
 
--- the memory information of a dump, where it can be read; else its map lines, where they can be.
--- After a miss in the information the map lines are not looked at
-abbrev pub information_of : Option (List MemoryInfo) → Option (List MapRegion) → Option InfoRegions
-information_of (Some info) maps = Some (OfInfo info)
-information_of None maps = option_map OfMaps maps
-
--- what the dump has on regions: the memory information or the map of Linux
+-- what the dump has on regions: the memory information, where it can be read; else the map lines of Linux,
+-- where they can be. After a miss in the information the map lines are not looked at
 abbrev pub info_of_dump : Dump → Option InfoRegions
 info_of_dump dump =
-    information_of (result_ok (stream_of memory_info_list_stream dump))
-    (result_ok (stream_of linux_maps_stream dump))
+    option_or (option_map OfInfo (result_ok (stream_of memory_info_list_stream dump)))
+    (option_map OfMaps (result_ok (stream_of linux_maps_stream dump)))
 
--- the lines of what lies at an address: the kept region of the memory that contains it, the kept
--- module, and the kept region of the information on memory
+-- the lines of what lies at an address, by the lists of a dump: the kept region of the memory that
+-- contains it, the kept module, and the kept region of the information on memory
+abbrev pub lines_at : Option UnifiedRegions → Option (List ModuleValue) → Option InfoRegions → ℕ → List ℕ
+lines_at memory modules infos address =
+    memory_line (looked_up_in range_of_region (option_map unified_regions memory) address)
+    ++ (module_line (looked_up_in range_of_module modules address)
+    ++ info_line (looked_up_in range_of_info_region (option_map info_regions infos) address))
+
+-- the same, by the dump
 abbrev pub lines_of : Dump → ℕ → List ℕ
-lines_of dump address =
-    memory_line (looked_up_in range_of_region (option_map unified_regions (memories_of_dump dump)) address)
-    ++ (module_line (looked_up_in range_of_module (modules_of_dump dump) address)
-    ++ info_line (looked_up_in range_of_info_region (option_map info_regions (info_of_dump dump)) address))
+lines_of dump address = lines_at (memories_of_dump dump) (modules_of_dump dump) (info_of_dump dump) address
 
 -- what a task prints of a minidump; its report is without names of codes
 abbrev pub text_of : Task → Dump → List ℕ
@@ -74,56 +71,37 @@ text_of Dir dump = dump_text dump
 text_of (At address) dump = lines_of dump address
 text_of Report dump = report_text [] dump
 
--- Below, `opens path answer` says what opening a path returns, and `left` which bytes a file has
--- left, where they are known.
+-- Below, `old` and `new` are the output before a call that returned `result`, and after it.
 
--- what a task prints of the minidump in the file of a path
-abbrev pub IsTextOf : {F : Type 0} → (List ℕ → Option F → Type 0) → (F → Option (List ℕ)) → List ℕ
-    → Task → List ℕ → Type 0
-IsTextOf opens left path task text =
-    (dump : Dump) × IsFileDump opens left path dump × (text ≡ text_of task dump)
-
--- the text that words ask for: the usage or the version, or that of the command that they mean
-abbrev pub IsAnswer : {F : Type 0} → (List ℕ → Option F → Type 0) → (F → Option (List ℕ))
-    → List (List ℕ) → List ℕ → Type 0
-IsAnswer opens left words text =
-    (told_of words ≡ Some text) ⊎ ((command : Command) × IsCommandOf words command
-    × IsTextOf opens left command.path.now command.task text)
-
--- the device took all of one of the texts
-abbrev pub TookAll : {D : Type 0} → (List ℕ → Type 0) → (D → Option (List ℕ)) → Told D → Told D
-    → Type 0
-TookAll IsText contents old new = (text : List ℕ) × IsText text × PutsAll contents old new text
-
--- it took a prefix of one of them, or nothing
-abbrev pub TookPrefix : {D : Type 0} → (List ℕ → Type 0) → (D → Option (List ℕ)) → Told D → Told D
-    → Type 0
-TookPrefix IsText contents old new =
-    (new ≡ old) ⊎ ((text : List ℕ) × IsText text × PutsPrefix contents old new text)
-
--- what a call wrote: all of one of the texts on `Ok`, a prefix on `Err`
-abbrev pub Writes : {D : Type 0} → (List ℕ → Type 0) → (D → Option (List ℕ)) → Told D → Told D
+-- a task was done on bytes: its text was printed, of the minidump that they are; or nothing was, and the
+-- error is theirs, or memory ran out for reading them. Bytes have errors of a header or a directory: neither
+-- `FileNotFound` nor `IoError`, which are those of the file
+abbrev pub IsDoneOn : {D : Type 0} → (D → Option (List ℕ)) → Told D → Told D → Task → List ℕ
     → Result (Unit {0}) Error → Type 0
-Writes IsText contents old new (Ok _) = TookAll IsText contents old new
-Writes IsText contents old new (Err _) = TookPrefix IsText contents old new
+IsDoneOn contents old new task bytes result =
+    ((dump : Dump) × (dump_in bytes ≡ Ok dump) × Prints contents old new (text_of task dump) result)
+    ⊎ ((new ≡ old) × IsErrAnd result (IsDumpErrorOr ⊤ bytes))
 
--- an error of a command on the file of a path: that of reading the file, before anything was
--- written; or its minidump was read, and the error is IoError where the output has failed, and else
--- OutOfMemory
-abbrev pub IsFileError : {F D : Type 0} → (List ℕ → Option F → Type 0) → (F → Option (List ℕ))
-    → (F → Bool) → List ℕ → Told D → Told D → Error → Type 0
-IsFileError opens left failed path old new e =
-    ((new ≡ old) × IsPathError opens left failed path e)
-    ⊎ ((dump : Dump) × IsFileDump opens left path dump × (e ≡ out_of_memory new))
+-- `opens path answer` says what opening a path returns, `left` which bytes a file has left, where they
+-- are known, and `failed` whether a read of it has failed
+module _ {F D : Type 0} (opens : List ℕ → Option F → Type 0) (left : F → Option (List ℕ)) (failed : F → Bool)
+    (contents : D → Option (List ℕ)) (old new : Told D) where
+  -- a command was done: its task on the bytes of the file of its path; or nothing was printed, and the error
+  -- is that of reading the file
+  abbrev pub IsDone : Command → Result (Unit {0}) Error → Type 0
+  IsDone command result =
+      ((bytes : List ℕ) × IsFile opens left command.path.now bytes
+      × IsDoneOn contents old new command.task bytes result)
+      ⊎ ((new ≡ old) × IsErrAnd result (λ e. (rest : List ℕ)
+      × ReadsFile opens left failed command.path.now [] rest (Err e)))
 
--- an error of the words: that of their command, and of others only that the output has failed
-abbrev pub IsCommandError : {F D : Type 0} → (List ℕ → Option F → Type 0) → (F → Option (List ℕ))
-    → (F → Bool) → List (List ℕ) → Told D → Told D → Error
-    → Type 0
-IsCommandError opens left failed words old new e =
-    ((text : List ℕ) × (told_of words ≡ Some text) × (e ≡ IoError) × (has_failed new ≡ true))
-    ⊎ ((command : Command) × IsCommandOf words command
-    × IsFileError opens left failed command.path.now old new e)
+  -- what words ask for was done: the usage or the version was printed, and only the output can have failed;
+  -- or the command that they mean was done
+  abbrev pub IsAnswered : List (List ℕ) → Result (Unit {0}) Error → Type 0
+  IsAnswered words result =
+      ((text : List ℕ) × (told_of words ≡ Some text) × Prints contents old new text result
+      × IfErr result (λ e. e ≡ IoError))
+      ⊎ ((command : Command) × IsCommandOf words command × IsDone command result)
 
 -- the device took all of a text; or it has failed, and took a prefix of it
 abbrev pub IsTold : {D : Type 0} → (D → Option (List ℕ)) → Told D → Told D → List ℕ → Type 0
@@ -149,12 +127,11 @@ pub record IsRun {F O E : Type 0} (opens : List ℕ → Option F → Type 0) (le
     (errors : E → Option (List ℕ)) (words : List (List ℕ)) (out_old out_new : Told O)
     (err_old err_new : Told E) (status : ℕ) : Type 0 where
   pub known : status ≤ 2
-  pub done : status ≡ 0 → TookAll (IsAnswer opens left words) output out_old out_new
+  pub done : status ≡ 0 → IsAnswered opens left failed output out_old out_new words (Ok tt)
       × (err_new ≡ err_old)
   pub failure : status ≡ 1
-      → TookPrefix (IsAnswer opens left words) output out_old out_new
-      × ((e : Error) × IsCommandError opens left failed words out_old out_new e
-      × IsTold errors err_old err_new (error_line (subject_of words) e))
+      → (e : Error) × IsAnswered opens left failed output out_old out_new words (Err e)
+      × IsTold errors err_old err_new (error_line (subject_of words) e)
   pub usage : status ≡ 2 → (out_new ≡ out_old) × IsTold errors err_old err_new usage
   pub bad : status ≡ 2 ↔ ((told_of words ≡ None) × ¬ (IsCommand words))
 

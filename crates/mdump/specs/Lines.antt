@@ -9,13 +9,10 @@ use Rattle.minidump.specs.Below.MemoryLists.Unified.{UnifiedRegion}
 use Rattle.minidump.specs.Below.MemoryLists.UnifiedInfo.{InfoRegion, range_of_info_region}
 use Rattle.minidump.specs.Below.Modules.Module.{ModuleValue}
 
--- a region of memory, by its first address and its size
-abbrev pub region_line : ℕ → ℕ → List ℕ
-region_line base size = concat (codes "memory " ∷ hex base ∷ codes " " ∷ hex size ∷ codes "\n" ∷ [])
-
--- the region of memory that was found, or that there is none
+-- the region of memory that was found, by its first address and its size, or that there is none
 abbrev pub memory_line : Option UnifiedRegion → List ℕ
-memory_line (Some region) = region_line region.base_address region.size
+memory_line (Some region) = concat (
+    codes "memory " ∷ hex region.base_address ∷ codes " " ∷ hex region.size ∷ codes "\n" ∷ [])
 memory_line None = codes "memory none\n"
 
 -- the module that was found, by its first address, its size and its name, or that there is none.

@@ -26,7 +26,7 @@
 //!   opens no file, `IoError` only if a read of the file failed, `MissingHeader` and the like only
 //!   if its bytes have that error, or `OutOfMemory`. Or the file is a minidump, and the error is
 //!   `IoError` only if the output has failed, else `OutOfMemory`. Or the usage or the version was
-//!   asked for, and the error is `IoError`, since the output has failed: `IsCommandError`.
+//!   asked for, and the error is `IoError`, since the output has failed: `IsAnswered`.
 //! - Which command the arguments mean, and how an address is spelled: `Command::parse`,
 //!   `hex_address`.
 //! - The status and the texts of a run from the arguments of the process: `run_arguments`; the

@@ -2,13 +2,14 @@ ghost use Rattle.std.specs.Prelude.{◌≡◌, IfErr, IfNone, IfSome, None, map,
 ghost use Rattle.std.specs.Option.{option_map};
 ghost use Rattle.minidump.specs.Below.Format.Print.{Prints};
 ghost use Rattle.mdump.specs.Command.{IsCommand};
-ghost use Rattle.mdump.specs.Done.{IsAnswer, IsCommandError, IsFileError, IsRun, IsTextOf, IsTold};
-ghost use Rattle.mdump.specs.Done.{Writes, error_line, subject_of, told_of, usage};
+ghost use Rattle.mdump.specs.Done.{IsAnswered, IsDone, IsDoneOn, IsRun, IsTold, error_line};
+ghost use Rattle.mdump.specs.Done.{subject_of, told_of, usage};
 
 use crate::command::{Command, Task};
 use crate::lines::print_lines;
 use minidump::text::put_text;
 use minidump::{CodeNames, Error, Minidump, OpenPath, Told, read_file, write_report};
+use std::alloc::Global;
 use std::io::Write;
 
 const USAGE: &str = "usage: mdump dir FILE | at FILE HEXADDRESS | report FILE\n";
@@ -77,12 +78,8 @@ fn answer<R: OpenPath + AllocGlobal, O: Write>(
     words: &[String],
     out: &mut Told<O>,
 ) -> Option<Result<(), Error>>
-    ensures written { IfSome result
-        (Writes (IsAnswer (R.opens rt.now) R.File.left
-        (map string_bytes words.now)) O.contents out.old out.new) }
-    ensures error { IfSome result (λ r. IfErr r
-        (IsCommandError (R.opens rt.now) R.File.left R.File.failed
-        (map string_bytes words.now) out.old out.new)) }
+    ensures some { IfSome result (IsAnswered (R.opens rt.now) R.File.left R.File.failed
+        O.contents out.old out.new (map string_bytes words.now)) }
     ensures command { IfSome result
         (λ _. (told_of (map string_bytes words.now) ≡ None)
         → ¬ (IsCommand (map string_bytes words.now)) → ⊥) }
@@ -103,27 +100,29 @@ fn obey<R: OpenPath + AllocGlobal, O: Write>(
     command: Command<'_>,
     out: &mut Told<O>,
 ) -> Result<(), Error>
-    ensures written { Writes
-        (IsTextOf (R.opens rt.now) R.File.left command.entry.path.now command.entry.task)
-        O.contents out.old out.new result }
-    ensures error { IfErr result (IsFileError
-        (R.opens rt.now) R.File.left R.File.failed command.entry.path.now out.old out.new) }
+    ensures { IsDone (R.opens rt.now) R.File.left R.File.failed O.contents out.old out.new
+        command.entry result }
 {
     let alloc = rt.alloc();
     let mut bytes = Vec::new(alloc);
-    match command.task {
-        Task::Dir => {
-            let dump = Minidump::read_path(rt, alloc, command.path, &mut bytes)?;
-            dump.print(alloc, out)
-        }
-        Task::At(address) => {
-            let dump = Minidump::read_path(rt, alloc, command.path, &mut bytes)?;
-            print_lines(&dump, alloc, address, out)
-        }
-        Task::Report => {
-            read_file(rt, command.path, &mut bytes)?;
-            write_report(alloc, bytes.as_slice(), &CodeNames::empty(), out)
-        }
+    read_file(rt, command.path, &mut bytes)?;
+    write_task(alloc, command.task, bytes.as_slice(), out)
+}
+
+// Does a task on a minidump, whose bytes are `bytes`.
+#[tactic(auto, using(crate::proofs::PrintLemmas::reported))]
+fn write_task<O: Write>(
+    alloc: Global,
+    task: Task,
+    bytes: &[u8],
+    out: &mut Told<O>,
+) -> Result<(), Error>
+    ensures { IsDoneOn O.contents out.old out.new task bytes.now result }
+{
+    match task {
+        Task::Dir => Minidump::read(alloc, bytes)?.print(alloc, out),
+        Task::At(address) => print_lines(&Minidump::read(alloc, bytes)?, alloc, address, out),
+        Task::Report => write_report(alloc, bytes, &CodeNames::empty(), out),
     }
 }
 
