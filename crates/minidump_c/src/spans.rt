@@ -32,27 +32,21 @@ pub(crate) fn push_text(texts: &mut Vec<u8>, text: &[u8]) -> Result<Span, AllocE
 pub(crate) fn bytes_of(text: &Option<String>) -> &[u8]
     ensures { result.now ≡ text_in (option_map string_bytes text.now) }
 {
-    match text {
-        Some(text) => text.as_bytes(),
-        None => &[],
-    }
+    text.as_ref().map_or(&[], |text| text.as_bytes())
 }
 
 // Returns 1 for what is there, 0 for what is absent.
 pub(crate) fn flag<T>(part: &Option<T>) -> u8
     ensures { result ≡ flag part.now }
 {
-    match part {
-        Some(_) => 1,
-        None => 0,
-    }
+    part.is_some() as u8
 }
 
 // Returns 1 for what is so, 0 for what isn't.
 pub(crate) fn bit(is_so: bool) -> u8
     ensures { result ≡ bit is_so }
 {
-    if is_so { 1 } else { 0 }
+    is_so as u8
 }
 
 /// An item of which a row is made, and whose texts are appended to those before.
@@ -77,6 +71,7 @@ pub(crate) trait MakeRow {
 }
 
 /// Makes the rows of items, and appends their texts.
+#[tactic(auto, using(crate::proofs::RowLemmas::rest_at))]
 pub(crate) fn make_rows<X: MakeRow>(
     alloc: Global,
     items: &[X],
