@@ -1,6 +1,6 @@
 -- The status of the program: by what was read at a path, of a run, and by arguments that give no
 -- options.
-use Rattle.std.specs.Prelude.{◌≡◌, ◌⊎◌, ℕ, Bool, true, false, List, [], fold, max}
+use Rattle.std.specs.Prelude.{◌≡◌, ◌≤◌, ◌⊎◌, ℕ, Bool, true, false, List, [], ◌∷◌, All, Contains}
 use Rattle.std.specs.Prelude.{Option, Some, None, Result, Ok, Err}
 use Rattle.std.specs.List.{AllZip}
 use Rattle.std.specs.Global.{Vec}
@@ -37,10 +37,11 @@ abbrev pub MayHave : {E : Type 0} → (Asked → Result (Option (Vec ℕ)) E →
     → ℕ → Type 0
 MayHave reads names scan asked status = HasStatus reads names scan asked status ⊎ (status ≡ 1)
 
--- a status is the greatest of those of dumps, each one that its dump may have, and of the first
+-- a status is the greatest of those of dumps, each one that its dump may have, and of the first: it is one of
+-- them, and none is greater
 unfoldable pub IsGreatest : (Asked → ℕ → Type 0) → ℕ → List Asked → ℕ → Type 0
-IsGreatest may first dumps status =
-    (statuses : List ℕ) × AllZip may dumps statuses × (status ≡ fold max first statuses)
+IsGreatest may first dumps status = (statuses : List ℕ) × AllZip may dumps statuses
+    × Contains (first ∷ statuses) status × All (λ other. other ≤ status) (first ∷ statuses)
 
 -- the list of paths by what reading it returned: an empty one if it can't be read
 abbrev pub list_read : {E : Type 0} → Result (Option (Vec ℕ)) E → List ℕ
