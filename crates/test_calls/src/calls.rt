@@ -4,6 +4,7 @@ use crate::prints::{
     handles, infos, maps, memory_texts, memory64_regions, new_modules, thread_infos,
 };
 use crate::read::{crashpad_module, read_from, unloaded_modules};
+use crate::walks::frames;
 use crate::world::{Sink, World};
 use minidump::format::MINIDUMP_STREAM_TYPE::{self, *};
 use minidump::{Error, Told};
@@ -25,6 +26,7 @@ pub enum Call {
     Maps,
     Handles,
     ThreadInfos,
+    Frames,
     Lookup,
     List,
 }
@@ -54,6 +56,7 @@ pub const CALLS: &[(&str, Call)] = &[
     ("maps", Call::Maps),
     ("handles", Call::Handles),
     ("thread-infos", Call::ThreadInfos),
+    ("frames", Call::Frames),
     ("lookup", Call::Lookup),
     ("list", Call::List),
 ];
@@ -75,6 +78,7 @@ pub fn make(world: &World<'_>, call: Call) -> Result<(), Error> {
         Call::Maps => maps(world, out),
         Call::Handles => handles(world, out),
         Call::ThreadInfos => thread_infos(world, out),
+        Call::Frames => frames(world),
         Call::Lookup => lookups(world, "lookup"),
         Call::List => lookups(world, "list"),
     }

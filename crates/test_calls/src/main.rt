@@ -32,6 +32,7 @@ mod prints;
 mod read;
 mod streams;
 mod summary;
+mod walks;
 mod world;
 
 use anyhow::{Result, bail};
