@@ -18,7 +18,7 @@ use Rattle.stack_walk.specs.Frames.{word_candidate, word_candidates, words_above
 use Rattle.stack_walk.specs.Calls.{is_past_headers}
 use Rattle.stack_walk.specs.Link.{IsLinkCandidate}
 use Rattle.stack_walk.specs.Lookups.{call_site, is_code}
-use Rattle.stack_walk.proofs.FoundLemmas.{All-added, all_given, one_more}
+use Rattle.stack_walk.proofs.FoundLemmas.{All-firsts, all_given, one_more}
 use Rattle.stack_walk.proofs.LinkLemmas.{is_linked}
 
 -- the address of the word below the stack pointer of a frame
@@ -88,7 +88,7 @@ all_candidates P s link frames limit by_word by_link =
     let above = word_candidates s (words_above s frames) in
     let linked = one_more P (link_candidate s link frames) [] (λ f e. by_link f (is_linked s link frames f e)) (All-nil P) in
     All-take P limit _
-    (All-added P [] ((register ++ below) ++ above) (All-nil P)
+    (All-firsts P ((register ++ below) ++ above)
     (All-append P (register ++ below) above
     (All-append P register below linked (of_words P s by_word (words_below s frames)))
     (of_words P s by_word (words_above s frames))))
@@ -104,9 +104,6 @@ only_link s link frames limit f there =
 
 -- ---- all frames
 
-in_stack : (s : StackValue) (c : MinidumpContext) (f : StackFrame) → HasEvidence s f → IsShown s c f
-in_stack s c f evidence = inl evidence
-
 in_link : (s : StackValue) (c : MinidumpContext) (frames : List StackFrame) (f : StackFrame) → IsLinkCandidate s (link_in c) frames f → IsShown s c f
 in_link s c frames f is = inr (record { word = is.word; trust = is.trust; is_link = is.is_link; is_return = is.is_return })
 
@@ -114,7 +111,7 @@ all_callers : (s : StackValue) (c : MinidumpContext) (f : StackFrame) (gs : List
     → All (IsShown s c) gs
 all_callers s c f [] last callers = All-nil (IsShown s c)
 all_callers s c f (g ∷ gs) last callers =
-    All-cons (IsShown s c) g gs (in_stack s c g (of_caller s f g callers.0)) (all_callers s c g gs last callers.1)
+    All-cons (IsShown s c) g gs (inl (of_caller s f g callers.0)) (all_callers s c g gs last callers.1)
 
 -- each frame but the first
 pub all_evidence : (s : StackValue) (c : MinidumpContext) (limit : ℕ) (first : StackFrame) (rest : List StackFrame)
@@ -125,4 +122,4 @@ all_evidence s c limit first rest x =
     let same : x.callers ++ candidates ≡ rest = (let whole : first ∷ rest ≡ walk ++ candidates = x.whole in cc) in
     rw (sym same)
     (All-append (IsShown s c) x.callers candidates (all_callers s c (context_frame c) x.callers x.last x.are_callers)
-    (all_candidates (IsShown s c) s (link_in c) walk limit (in_stack s c) (in_link s c walk)))
+    (all_candidates (IsShown s c) s (link_in c) walk limit (λ f evidence. inl evidence) (in_link s c walk)))

@@ -1,106 +1,63 @@
 -- What a scan finds: of candidates with one return address the first.
 use Rattle.std.proofs.Common.{◌≡◌, ◌∙◌, ◌⊎◌, inl, inr, ℕ, zero, suc, ◌+◌, ◌-◌, ◌<◌, ◌≤◌, List, [], ◌∷◌, ◌++◌, length, map, take, Bool, true, false, Option, Some, None}
-use Rattle.std.proofs.Common.{refl, ap, subst, sym, arith}
-use Rattle.std.specs.Prelude.{All, Contains, nat_le, ◌==◌, ◌||◌, if◌then◌else◌}
-use Rattle.std.specs.List.{IsDistinct, cons_option, filter_map, fold, list_any, range_with_len}
+use Rattle.std.proofs.Common.{refl, ap, append-nil, append_assoc, subst, sym, arith}
+use Rattle.std.specs.Prelude.{All, Contains, ◌≢◌, ◌==◌, ◌||◌, not}
+use Rattle.std.specs.List.{AllPairs, IsDistinct, cons_option, filter, filter_map, fold, list_any, range_with_len}
 use Rattle.std.proofs.lemmas.Bool.{cases_lt}
-use Rattle.std.proofs.lemmas.Bool.Decides.{nat_tests}
-use Rattle.std.proofs.lemmas.Cmp.{nat_eq_equiv}
-use Rattle.std.proofs.lemmas.Grind.{common_steps, fold-append}
-use Rattle.std.proofs.lemmas.List.{map_push, take-append-le, take_all}
-use Rattle.std.proofs.lemmas.List.Elements.{All-cons, All-head, All-nil, All-push, All-tail, filter_map-append}
-use Rattle.std.proofs.lemmas.List.Folds.{fold_stays, list_any-append}
-use Rattle.std.proofs.lemmas.Map.Keys.{IsDistinct-push}
+use Rattle.std.proofs.lemmas.Bool.Decides.{Decides-eqb, nat_tests}
+use Rattle.std.proofs.lemmas.Grind.{common_steps}
+use Rattle.std.proofs.lemmas.List.{get_or-take, length-take, take-append-le, take-map, take_all}
+use Rattle.std.proofs.lemmas.List.Elements.{All-cons, All-filter, All-head, All-map, All-nil, All-tail, filter-append, filter_map-append, filter_passes}
+use Rattle.std.proofs.lemmas.List.Filters.{length-filter_both}
+use Rattle.std.proofs.lemmas.List.Kept.{AllPairs-cons, AllPairs-filter}
+use Rattle.std.proofs.lemmas.Map.Made.{IsDistinct-from_AllPairs}
+use Rattle.std.proofs.lemmas.Map.Views.{any-filter_same}
 use Rattle.stack_walk.specs.declared.frame.StackFrame.{StackFrame}
-use Rattle.stack_walk.specs.Found.{up_to}
-use Rattle.stack_walk.specs.Frames.{StackValue, firsts, has_word, with_other, word_candidate, word_candidates}
+use Rattle.stack_walk.specs.Found.{has_word, up_to}
+use Rattle.stack_walk.specs.Frames.{StackValue, firsts, word_candidate, word_candidates}
 
--- ---- frames that are added to others, unless one with their return address is there
+-- ---- of frames with one return address the first
+
+-- whether a frame has another return address than these frames
+abbrev is_new : List StackFrame → StackFrame → Bool
+is_new fs g = not (has_word fs g.instruction)
+
+-- whether a frame has another return address than this one
+abbrev differs : StackFrame → StackFrame → Bool
+differs f g = not (f.instruction == g.instruction)
+
+neither : {X : Type 0} (p q : X → Bool) (xs : List X) → filter (λ x. not (p x)) (filter (λ x. not (q x)) xs) ≡ filter (λ x. not (p x || q x)) xs
+neither p q [] = refl
+neither p q (x ∷ xs) = grind (arith, neither p q xs)
+
+all_pass : {X : Type 0} (xs : List X) → xs ≡ filter (λ x. true) xs
+all_pass [] = refl
+all_pass (x ∷ xs) = ap (λ ys. x ∷ ys) (all_pass xs)
+
+-- those of two lists: of the second those that are new
+firsts_append : (fs gs : List StackFrame) → firsts (fs ++ gs) ≡ firsts fs ++ filter (is_new fs) (firsts gs)
+firsts_append [] gs = all_pass (firsts gs)
+firsts_append (f ∷ fs) gs =
+    let same = neither (λ (g : StackFrame). f.instruction == g.instruction) (λ (g : StackFrame). has_word fs g.instruction) (firsts gs) in
+    rw (firsts_append fs gs, filter-append (differs f) (firsts fs)) (ap (λ (hs : List StackFrame). f ∷ (filter (differs f) (firsts fs) ++ hs)) same)
+
+-- they have all return addresses
+pub has_firsts : (fs : List StackFrame) (word : ℕ) → has_word (firsts fs) word ≡ has_word fs word
+has_firsts [] word = refl
+has_firsts (f ∷ fs) word =
+    let others = any-filter_same (λ (g : StackFrame). g.instruction == word) (differs f) (not (f.instruction == word)) (λ g same. grind (arith, nat_tests))
+    (firsts fs) in
+    grind (arith, others, has_firsts fs word)
+
+pub length-firsts : (fs : List StackFrame) → length (firsts fs) ≤ length fs
+length-firsts [] = omega arith
+length-firsts (f ∷ fs) = omega (arith, length-firsts fs, length-filter_both (differs f) (λ g. not (differs f g)) (λ g. refl) (firsts fs))
 
 -- all that holds of each
-pub All-added : (P : StackFrame → Type 0) (done fs : List StackFrame) → All P done → All P fs → All P (fold with_other done fs)
-All-added P done [] all each = all
-All-added P done (f ∷ fs) all each = All-added P (with_other done f) fs (by (has_word done f.instruction)) (All-tail P f fs each)
-  where
-    by : (b : Bool) → All P (if b then done else done ++ f ∷ [])
-    by true = all
-    by false = All-push P done f all (All-head P f fs each)
-
-pub few_added : (done fs : List StackFrame) → length (fold with_other done fs) ≤ length done + length fs
-few_added done [] = omega arith
-few_added done (f ∷ fs) = grind (arith, common_steps, few_added (with_other done f) fs)
-
--- the others stay in front
-kept : (n : ℕ) (done fs : List StackFrame) → n ≤ length done → take n (fold with_other done fs) ≡ take n done
-kept n done [] few = refl
-kept n done (f ∷ fs) few = by (has_word done f.instruction) (kept n done fs few) (kept n (done ++ f ∷ []) fs (grind (arith, common_steps)))
-  where
-    by : (b : Bool) → take n (fold with_other done fs) ≡ take n done → take n (fold with_other (done ++ f ∷ []) fs) ≡ take n (done ++ f ∷ [])
-        → take n (fold with_other (if b then done else done ++ f ∷ []) fs) ≡ take n done
-    by true same more = same
-    by false same more = more ∙ take-append-le n done (f ∷ []) few
-
--- up to a limit, they are the first ones
-cut : (limit : ℕ) (done fs : List StackFrame) → length done ≤ limit → fold (up_to limit) done fs ≡ take limit (fold with_other done fs)
-cut limit done [] few = sym (take_all limit done few)
-cut limit done (f ∷ fs) few = by (nat_le limit (length done)) refl (λ more. cut limit (with_other done f) fs more) (cut limit done fs few)
-  where
-    by : (b : Bool) → nat_le limit (length done) ≡ b
-        → (length (with_other done f) ≤ limit → fold (up_to limit) (with_other done f) fs ≡ take limit (fold with_other (with_other done f) fs))
-        → fold (up_to limit) done fs ≡ take limit (fold with_other done fs)
-        → fold (up_to limit) (if b then done else with_other done f) fs ≡ take limit (fold with_other (with_other done f) fs)
-    by true is more same = same ∙ kept limit done fs (grind (arith, nat_tests)) ∙ sym (kept limit done (f ∷ fs) (grind (arith, nat_tests)))
-    by false is more same = more (grind (arith, nat_tests, common_steps))
-
--- ---- the candidates of words
-
--- as many as the limit stay as they are
-full : (limit : ℕ) (done fs : List StackFrame) → limit ≤ length done → fold (up_to limit) done fs ≡ done
-full limit done fs enough = fold_stays (up_to limit) done (λ f. grind (arith, nat_tests)) fs
-
-ranges : (a n k : ℕ) → range_with_len a (n + k) ≡ range_with_len a n ++ range_with_len (a + n) k
-ranges a zero k = (let all : 0 + k ≡ k = omega arith in let start : a + 0 ≡ a = omega arith in rw (all, start) refl)
-ranges a (suc n) k =
-    let more : suc n + k ≡ suc (n + k) = omega arith in
-    let next : a + suc n ≡ a + 1 + n = omega arith in
-    rw (more, next) (ap (λ l. a ∷ l) (ranges (a + 1) n k))
-
-words_append : (s : StackValue) (a n k : ℕ) → word_candidates s (a, n + k) ≡ word_candidates s (a, n) ++ word_candidates s (a + n, k)
-words_append s a n k =
-    ap (filter_map (word_candidate s)) (ranges a n k) ∙ filter_map-append (word_candidate s) (range_with_len a n) (range_with_len (a + n) k)
-
--- a word more
-pub words_more : (s : StackValue) (limit a n : ℕ) (old now new : List StackFrame) (o : Option StackFrame) → o ≡ word_candidate s (a + n)
-    → now ≡ fold (up_to limit) old (word_candidates s (a, n)) → new ≡ fold (up_to limit) now (cons_option o [])
-    → new ≡ fold (up_to limit) old (word_candidates s (a, n + 1))
-words_more s limit a n old now new o is was added =
-    added
-    ∙ ap (λ p. fold (up_to limit) now (cons_option p [])) is
-    ∙ ap (λ fs. fold (up_to limit) fs (word_candidates s (a + n, 1))) was
-    ∙ sym (fold-append (up_to limit) old (word_candidates s (a, n)) (word_candidates s (a + n, 1)))
-    ∙ ap (fold (up_to limit) old) (sym (words_append s a n 1))
-
--- the words after these, where as many as the limit are found
-pub words_enough : (s : StackValue) (limit a n all : ℕ) (old now : List StackFrame) → n ≤ all → limit ≤ length now
-    → now ≡ fold (up_to limit) old (word_candidates s (a, n)) → now ≡ fold (up_to limit) old (word_candidates s (a, all))
-words_enough s limit a n all old now within enough was =
-    let rest = word_candidates s (a + n, all - n) in
-    let whole : n + (all - n) ≡ all = omega arith in
-    sym (full limit now rest enough)
-    ∙ ap (λ fs. fold (up_to limit) fs rest) was
-    ∙ sym (fold-append (up_to limit) old (word_candidates s (a, n)) rest)
-    ∙ ap (fold (up_to limit) old) (sym (words_append s a n (all - n)))
-    ∙ ap (λ m. fold (up_to limit) old (word_candidates s (a, m))) whole
-
--- those of the link register, and of the words below the record and from the last frame on
-pub found_all : (limit : ℕ) (link low high : List StackFrame) (a b c : List StackFrame) → a ≡ fold (up_to limit) [] link
-    → b ≡ fold (up_to limit) a low → c ≡ fold (up_to limit) b high → c ≡ take limit (firsts ((link ++ low) ++ high))
-found_all limit link low high a b c first second third =
-    third
-    ∙ ap (λ fs. fold (up_to limit) fs high)
-    (second ∙ ap (λ fs. fold (up_to limit) fs low) first ∙ sym (fold-append (up_to limit) [] link low))
-    ∙ sym (fold-append (up_to limit) [] (link ++ low) high)
-    ∙ cut limit [] ((link ++ low) ++ high) (omega arith)
+pub All-firsts : (P : StackFrame → Type 0) (fs : List StackFrame) → All P fs → All P (firsts fs)
+All-firsts P [] all = all
+All-firsts P (f ∷ fs) all =
+    All-cons P f (filter (differs f) (firsts fs)) (All-head P f fs all) (All-filter (differs f) P (firsts fs) (All-firsts P fs (All-tail P f fs all)))
 
 -- ---- return addresses
 
@@ -108,10 +65,35 @@ found_all limit link low high a b c first second third =
 abbrev pub words_of : List StackFrame → List ℕ
 words_of fs = map (λ (f : StackFrame). f.instruction) fs
 
-any_word : (fs : List StackFrame) (word : ℕ) → list_any (λ w. word == w) (words_of fs) ≡ has_word fs word
-any_word [] word = refl
-any_word (f ∷ fs) word = grind (arith, nat_tests, any_word fs word)
+words_filter : (p : ℕ → Bool) (fs : List StackFrame) → filter p (words_of fs) ≡ words_of (filter (λ f. p f.instruction) fs)
+words_filter p [] = refl
+words_filter p (f ∷ fs) = grind (arith, words_filter p fs)
 
+-- no two numbers are the same
+abbrev AreApart : List ℕ → Type 0
+AreApart words = AllPairs (λ x y. x ≢ y) words
+
+apart : (fs : List StackFrame) → AreApart (words_of (firsts fs))
+apart [] = λ i j d lt within. absurd (omega arith)
+apart (f ∷ fs) =
+    let others = filter (differs f) (firsts fs) in
+    let new : ℕ → Bool = λ word. not (f.instruction == word) in
+    AllPairs-cons (λ x y. x ≢ y) f.instruction (words_of others)
+    (All-map (λ word. f.instruction ≢ word) (λ (g : StackFrame). g.instruction) others
+    (λ i d within same. grind (arith, nat_tests, filter_passes (differs f) (firsts fs) i d within)))
+    (subst AreApart (words_filter new (firsts fs)) (AllPairs-filter (λ x y. x ≢ y) new (words_of (firsts fs)) (apart fs)))
+
+-- none is there twice
+pub distinct_firsts : (limit : ℕ) (fs : List StackFrame) → IsDistinct ◌==◌ (words_of (take limit (firsts fs)))
+distinct_firsts limit fs =
+    let words = words_of (firsts fs) in
+    let len = length-take limit words in
+    subst (λ (ws : List ℕ). IsDistinct ◌==◌ ws) (take-map (λ (f : StackFrame). f.instruction) limit (firsts fs))
+    (IsDistinct-from_AllPairs Decides-eqb (take limit words) (λ i j d lt within same.
+    apart fs i j d lt (omega (arith, len))
+    (sym (get_or-take limit words i d (omega (arith, len))) ∙ same ∙ get_or-take limit words j d (omega (arith, len)))))
+
+-- and none is left out
 pub word_there : (fs : List StackFrame) (word : ℕ) → has_word fs word ≡ true → Contains (words_of fs) word
 word_there [] word is = cc
 word_there (f ∷ fs) word is = by (word == f.instruction) refl (word_there fs word)
@@ -120,30 +102,66 @@ word_there (f ∷ fs) word is = by (word == f.instruction) refl (word_there fs w
     by true here rest = (0, omega arith, grind (arith, nat_tests))
     by false other rest = (let c = rest (grind arith) in (suc c.0, omega arith, c.2))
 
--- none is there twice
-distinct_added : (limit : ℕ) (done fs : List StackFrame) → IsDistinct ◌==◌ (words_of done) → IsDistinct ◌==◌ (words_of (fold (up_to limit) done fs))
-distinct_added limit done [] d = d
-distinct_added limit done (f ∷ fs) d = distinct_added limit (up_to limit done f) fs (by (nat_le limit (length done)) (has_word done f.instruction) refl)
-  where
-    by : (full b : Bool) → has_word done f.instruction ≡ b
-        → IsDistinct ◌==◌ (words_of (if full then done else (if b then done else done ++ f ∷ [])))
-    by true b is = d
-    by false true is = d
-    by false false is = simp map_push (IsDistinct-push nat_eq_equiv (words_of done) f.instruction d (any_word done f.instruction ∙ is))
+-- ---- the candidates of words
 
-pub distinct_firsts : (limit : ℕ) (fs : List StackFrame) → IsDistinct ◌==◌ (words_of (take limit (fold with_other [] fs)))
-unfolding IsDistinct
-distinct_firsts limit fs = subst (λ (gs : List StackFrame). IsDistinct ◌==◌ (words_of gs)) (cut limit [] fs (omega arith)) (distinct_added limit [] fs tt)
-
--- and none is left out
-pub words_added : (done fs : List StackFrame) (word : ℕ) → (has_word done word || has_word fs word) ≡ true
-    → has_word (fold with_other done fs) word ≡ true
-words_added done [] word is = grind arith
-words_added done (f ∷ fs) word is = words_added (with_other done f) fs word (by (has_word done f.instruction) refl)
+added : (limit : ℕ) (fs : List StackFrame) (o : Option StackFrame)
+    → fold (up_to limit) (take limit (firsts fs)) (cons_option o []) ≡ take limit (firsts (fs ++ cons_option o []))
+added limit fs None = rw append-nil refl
+added limit fs (Some f) = rw (firsts_append fs (f ∷ [])) (by (cases_lt (length (firsts fs)) limit))
   where
-    by : (b : Bool) → has_word done f.instruction ≡ b → (has_word (if b then done else done ++ f ∷ []) word || has_word fs word) ≡ true
-    by true seen = grind (arith, nat_tests)
-    by false other = grind (arith, nat_tests, list_any-append)
+    by : (length (firsts fs) < limit) ⊎ (limit ≤ length (firsts fs))
+        → up_to limit (take limit (firsts fs)) f ≡ take limit (firsts fs ++ filter (is_new fs) (f ∷ []))
+    by (inl more) =
+        let all = take_all limit (firsts fs) (omega arith) in
+        let one = take_all limit (firsts fs ++ f ∷ []) (grind (arith, common_steps)) in
+        rw all (grind (arith, nat_tests, has_firsts fs f.instruction, append-nil (firsts fs), all, one))
+    by (inr enough) = rw (take-append-le limit (firsts fs) (filter (is_new fs) (f ∷ [])) enough) (grind (arith, nat_tests, length-take limit (firsts fs)))
+
+-- a candidate more
+pub one_found : (limit : ℕ) (fs now new : List StackFrame) (o : Option StackFrame) → now ≡ take limit (firsts fs)
+    → new ≡ fold (up_to limit) now (cons_option o []) → new ≡ take limit (firsts (fs ++ cons_option o []))
+one_found limit fs now new o was is = is ∙ ap (λ (gs : List StackFrame). fold (up_to limit) gs (cons_option o [])) was ∙ added limit fs o
+
+-- as many as the limit stay as they are
+enough_found : (limit : ℕ) (fs gs : List StackFrame) → limit ≤ length (take limit (firsts fs)) → take limit (firsts fs) ≡ take limit (firsts (fs ++ gs))
+enough_found limit fs gs enough =
+    let many : limit ≤ length (firsts fs) = omega (arith, enough, length-take limit (firsts fs)) in
+    rw (firsts_append fs gs) (sym (take-append-le limit (firsts fs) (filter (is_new fs) (firsts gs)) many))
+
+ranges : (a n k : ℕ) → range_with_len a (n + k) ≡ range_with_len a n ++ range_with_len (a + n) k
+ranges a zero k = (let all : 0 + k ≡ k = omega arith in let start : a + 0 ≡ a = omega arith in rw (all, start) refl)
+ranges a (suc n) k =
+    let more : suc n + k ≡ suc (n + k) = omega arith in
+    let next : a + suc n ≡ a + 1 + n = omega arith in
+    rw (more, next) (ap (λ l. a ∷ l) (ranges (a + 1) n k))
+
+-- the words after others
+words_append : (s : StackValue) (before : List StackFrame) (a n k : ℕ)
+    → (before ++ word_candidates s (a, n)) ++ word_candidates s (a + n, k) ≡ before ++ word_candidates s (a, n + k)
+words_append s before a n k =
+    append_assoc before (word_candidates s (a, n)) (word_candidates s (a + n, k))
+    ∙ ap (λ (ws : List StackFrame). before ++ ws) (sym (ap (filter_map (word_candidate s)) (ranges a n k)
+    ∙ filter_map-append (word_candidate s) (range_with_len a n) (range_with_len (a + n) k)))
+
+-- the candidates of a word more
+pub words_more : (s : StackValue) (limit : ℕ) (before : List StackFrame) (a n : ℕ) (now new : List StackFrame) (o : Option StackFrame)
+    → o ≡ word_candidate s (a + n) → now ≡ take limit (firsts (before ++ word_candidates s (a, n))) → new ≡ fold (up_to limit) now (cons_option o [])
+    → new ≡ take limit (firsts (before ++ word_candidates s (a, n + 1)))
+words_more s limit before a n now new o is was more =
+    let fs = before ++ word_candidates s (a, n) in
+    one_found limit fs now new o was more
+    ∙ ap (λ (p : Option StackFrame). take limit (firsts (fs ++ cons_option p []))) is
+    ∙ ap (λ (gs : List StackFrame). take limit (firsts gs)) (words_append s before a n 1)
+
+-- and of the words after these, where as many as the limit are found
+pub words_enough : (s : StackValue) (limit : ℕ) (before : List StackFrame) (a n all : ℕ) (now : List StackFrame) → n ≤ all → limit ≤ length now
+    → now ≡ take limit (firsts (before ++ word_candidates s (a, n))) → now ≡ take limit (firsts (before ++ word_candidates s (a, all)))
+words_enough s limit before a n all now within enough was =
+    let whole : n + (all - n) ≡ all = omega arith in
+    was
+    ∙ enough_found limit (before ++ word_candidates s (a, n)) (word_candidates s (a + n, all - n)) (subst (λ (fs : List StackFrame). limit ≤ length fs) was enough)
+    ∙ ap (λ (gs : List StackFrame). take limit (firsts gs)) (words_append s before a n (all - n))
+    ∙ ap (λ m. take limit (firsts (before ++ word_candidates s (a, m)))) whole
 
 -- ---- what is given of the numbers of a range
 

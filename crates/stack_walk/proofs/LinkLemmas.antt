@@ -1,14 +1,13 @@
 -- The candidate of the link register: what it is, and that a scan begins with it.
-use Rattle.std.proofs.Common.{◌≡◌, ℕ, zero, suc, ◌<◌, List, [], ◌∷◌, ◌++◌, take, Bool, true, false, Option, Some, None, refl, arith}
+use Rattle.std.proofs.Common.{◌≡◌, ℕ, zero, suc, ◌<◌, List, Bool, true, Option, Some, None, refl, arith}
 use Rattle.std.specs.Prelude.{◌↔◌, ◌&&◌, slice_get, unwrap_or, if◌then◌else◌}
-use Rattle.std.specs.List.{fold}
 use Rattle.std.specs.Option.{option_and_then}
 use Rattle.std.proofs.lemmas.Bool.Decides.{nat_tests}
 use Rattle.stack_walk.specs.declared.frame.FrameTrust.TheVariants.{Link}
 use Rattle.stack_walk.specs.declared.frame.StackFrame.{StackFrame}
 use Rattle.stack_walk.specs.Addresses.{unsigned}
 use Rattle.stack_walk.specs.Calls.{may_end_call}
-use Rattle.stack_walk.specs.Frames.{StackValue, has_word, lacks, link_candidate, scan, with_other, word_candidates, words_above, words_below}
+use Rattle.stack_walk.specs.Frames.{StackValue, lacks, link_candidate, scan}
 use Rattle.stack_walk.specs.Link.{IsLinkCandidate}
 use Rattle.stack_walk.specs.Lookups.{call_site, is_code, may_be_run}
 
@@ -62,21 +61,8 @@ link_candidate_by s link frames f = (is_found s link frames f, is_linked s link 
 
 -- ---- its place
 
-leads : (n : ℕ) (f : StackFrame) (done fs : List StackFrame) → slice_get (take (suc n) (fold with_other (f ∷ done) fs)) 0 ≡ Some f
-leads n f done [] = refl
-leads n f done (g ∷ fs) = by (has_word (f ∷ done) g.instruction) (leads n f done fs) (leads n f (done ++ g ∷ []) fs)
-  where
-    by : (b : Bool) → slice_get (take (suc n) (fold with_other (f ∷ done) fs)) 0 ≡ Some f
-        → slice_get (take (suc n) (fold with_other (f ∷ (done ++ g ∷ [])) fs)) 0 ≡ Some f
-        → slice_get (take (suc n) (fold with_other (if b then f ∷ done else f ∷ (done ++ g ∷ [])) fs)) 0 ≡ Some f
-    by true same more = same
-    by false same more = more
-
 -- the scan has it first
 pub first_of_scan : (s : StackValue) (link : Option ℕ) (frames : List StackFrame) (limit : ℕ) (f : StackFrame) → IsLinkCandidate s link frames f
     → 0 < limit → slice_get (scan s link frames limit) 0 ≡ Some f
 first_of_scan s link frames zero f is some = absurd (omega (arith, some))
-first_of_scan s link frames (suc n) f is some =
-    let below = word_candidates s (words_below s frames) in
-    let above = word_candidates s (words_above s frames) in
-    rw (is_found s link frames f is) (leads n f [] (below ++ above))
+first_of_scan s link frames (suc n) f is some = rw (is_found s link frames f is) refl

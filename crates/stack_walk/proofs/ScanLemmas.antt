@@ -1,5 +1,5 @@
 -- The scan leaves out no return address of an aligned word that has a candidate, and has none twice.
-use Rattle.std.proofs.Common.{◌≡◌, ℕ, ◌+◌, ◌-◌, ◌*◌, ◌/◌, ◌<◌, ◌≤◌, List, [], ◌∷◌, ◌++◌, length, true, Option, Some, None, arith, length-append, sym}
+use Rattle.std.proofs.Common.{◌≡◌, ◌∙◌, ℕ, ◌+◌, ◌-◌, ◌*◌, ◌/◌, ◌<◌, ◌≤◌, List, [], ◌∷◌, ◌++◌, length, true, Option, Some, None, arith, length-append, sym}
 use Rattle.std.specs.Prelude.{Contains, max, slice_get, ◌==◌}
 use Rattle.std.specs.Int.{div_ceil}
 use Rattle.std.specs.List.{IsDistinct, cons_option, range_with_len}
@@ -16,10 +16,11 @@ use Rattle.minidump.specs.Below.System.Cpu.{pointer_bytes}
 use Rattle.stack_walk.specs.declared.frame.FrameTrust.TheVariants.{FramePointer}
 use Rattle.stack_walk.specs.declared.frame.StackFrame.{StackFrame}
 use Rattle.stack_walk.specs.Addresses.{address_after}
-use Rattle.stack_walk.specs.Frames.{StackValue, firsts, has_word, link_candidate, record_of, scan, stack_bytes, word_candidate}
+use Rattle.stack_walk.specs.Found.{has_word}
+use Rattle.stack_walk.specs.Frames.{StackValue, firsts, link_candidate, record_of, scan, stack_bytes, word_candidate}
 use Rattle.stack_walk.specs.Frames.{word_candidates, words_above, words_below, words_from}
 use Rattle.stack_walk.proofs.CallerLemmas.{base_of, end_of}
-use Rattle.stack_walk.proofs.FoundLemmas.{distinct_firsts, few_added, few_given, given, word_there, words_added, words_of}
+use Rattle.stack_walk.proofs.FoundLemmas.{distinct_firsts, few_given, given, has_firsts, length-firsts, word_there, words_of}
 
 -- ---- how many there are
 
@@ -49,10 +50,9 @@ candidates_of s link frames =
 few_firsts : (s : StackValue) (link : Option ℕ) (frames : List StackFrame) → 4 ≤ length (stack_bytes s)
     → length (firsts (candidates_of s link frames)) ≤ length (stack_bytes s)
 few_firsts s link frames some =
-    let few = few_added [] (candidates_of s link frames) in
     omega (
       arith,
-      few,
+      length-firsts (candidates_of s link frames),
       length-append {A = StackFrame},
       one_linked (link_candidate s link frames),
       few_candidates s (words_below s frames),
@@ -99,7 +99,7 @@ there : (s : StackValue) (link : Option ℕ) (frames : List StackFrame) (limit n
 there s link frames limit number size f is e enough has =
     let on = on_stack s number size f is e in
     rw (take_all limit (firsts (candidates_of s link frames)) (omega (arith, enough, few_firsts s link frames (omega (arith, on.0, on.1, on.2)))))
-    (word_there (firsts (candidates_of s link frames)) f.instruction (words_added [] (candidates_of s link frames) f.instruction has))
+    (word_there (firsts (candidates_of s link frames)) f.instruction (has_firsts (candidates_of s link frames) f.instruction ∙ has))
 
 has_number : (s : StackValue) (words : ℕ × ℕ) (number : ℕ) (f : StackFrame) → word_candidate s number ≡ Some f
     → (words.0 ≤ number) × (number < words.0 + words.1) → has_word (word_candidates s words) f.instruction ≡ true

@@ -4,7 +4,7 @@ use Rattle.std.specs.Prelude.{◌≡◌, ℕ, ◌+◌, ◌-◌, ◌*◌, ◌/◌
 use Rattle.std.specs.Prelude.{List, [], ◌∷◌, ◌++◌, codes, length, take, slice_get, Option, Some, None}
 use Rattle.std.specs.Prelude.{true, false, if◌then◌else◌, unwrap_or}
 use Rattle.std.specs.Int.{div_ceil}
-use Rattle.std.specs.List.{cons_option, filter_map, fold, list_any, range_with_len}
+use Rattle.std.specs.List.{cons_option, filter, filter_map, range_with_len}
 use Rattle.std.specs.Option.{option_and_then, option_map, option_map_or}
 use Rattle.minidump.specs.declared.MinidumpContext.{MinidumpContext}
 use Rattle.minidump.specs.declared.MinidumpRawContext.{MinidumpRawContext}
@@ -252,17 +252,10 @@ link_candidate s link frames = option_and_then
 
 -- ---- all candidates
 
--- whether a frame of a list has this return address
-abbrev pub has_word : List StackFrame → ℕ → Bool
-has_word frames word = list_any (λ f. f.instruction == word) frames
-
--- frames and another one, if none of them has its return address
-abbrev pub with_other : List StackFrame → StackFrame → List StackFrame
-with_other frames f = if has_word frames f.instruction then frames else frames ++ f ∷ []
-
 -- of frames with one return address the first
 abbrev pub firsts : List StackFrame → List StackFrame
-firsts frames = fold with_other [] frames
+firsts [] = []
+firsts (f ∷ frames) = f ∷ filter (λ g. not (f.instruction == g.instruction)) (firsts frames)
 
 -- the candidates of a walk with this link register and these frames, each return address once and at
 -- most so many: that of the link register, those of the words of the first frame below its record,

@@ -1,6 +1,6 @@
 //! The candidate of the link register.
 ghost use Rattle.std.specs.Prelude.{◌≡◌};
-ghost use Rattle.stack_walk.specs.Frames.{is_by_rules, lacks, link_candidate, link_in, stack_of};
+ghost use Rattle.stack_walk.specs.Frames.{lacks, link_candidate, link_in, stack_of};
 
 use crate::lookups::{call_site, is_code};
 use crate::scan::may_hold_call;
@@ -51,19 +51,9 @@ fn lacks(frames: &[StackFrame], address: u64) -> bool
     ensures { result ≡ lacks frames.now address }
 {
     match frames.get(1) {
-        Some(caller) => !is_by_rules(caller.trust) && caller.instruction != address,
-        None => true,
-    }
-}
-
-// Tells whether a frame is found by rules, which say where the return address of a frame is.
-fn is_by_rules(trust: FrameTrust) -> bool
-    ensures { result ≡ is_by_rules trust }
-{
-    match trust {
-        FrameTrust::Cfi => true,
-        FrameTrust::Context | FrameTrust::FramePointer | FrameTrust::Scan | FrameTrust::Link => {
-            false
+        Some(caller) => {
+            !matches!(caller.trust, FrameTrust::Cfi) && caller.instruction != address
         }
+        None => true,
     }
 }

@@ -1,11 +1,12 @@
 //! The candidates of a walk.
-ghost use Rattle.std.specs.Prelude.{◌≡◌, ◌+◌, [], IfOk, OnOk};
+ghost use Rattle.std.specs.Prelude.{◌≡◌, ◌+◌, ◌++◌, [], List, IfOk, OnOk};
 ghost use Rattle.std.specs.List.{cons_option, fold};
-ghost use Rattle.stack_walk.specs.Found.{IsSeen, up_to};
+ghost use Rattle.stack_walk.specs.Found.{IsFound, IsSeen, up_to};
 ghost use Rattle.stack_walk.specs.Frames.{address_candidate, candidate_at, may_hold_call};
 ghost use Rattle.stack_walk.specs.Frames.{scan, stack_of, word_candidate};
 ghost use Rattle.stack_walk.specs.Frames.{word_candidates, words_above, words_below};
 ghost use Rattle.stack_walk.specs.Frames.{words_between, words_from};
+ghost use Rattle.stack_walk.specs.declared.frame.StackFrame.{StackFrame};
 
 use crate::addresses::address_after;
 use crate::calls::may_end_call;
@@ -69,9 +70,8 @@ impl Found {
         words: (u64, usize),
         limit: usize,
     ) -> Result<(), AllocError>
-        ensures { OnOk result (IsSeen self.old → IsSeen self.new × (self.new.frames.items
-            ≡ fold (up_to limit) self.old.frames.items
-            (word_candidates (stack_of stack.now) words))) }
+        ensures { OnOk result ((before : List StackFrame) → IsFound limit before self.old
+            → IsFound limit (before ++ word_candidates (stack_of stack.now) words) self.new) }
     {
         let (first, count) = words;
         for index in 0..count {
@@ -177,11 +177,8 @@ fn candidate_of(stack: &Stack<'_, '_>, size: u64, address: u64) -> Option<StackF
     let stack_pointer = address_after(stack.width, address, size)?;
     let instruction = stack.return_at(address)?;
     let call = call_site(stack.cpu, instruction)?;
-    let is_in_code = match offset_at(stack.modules, call) {
-        Some(offset) => offset >= 4096,
-        None => false,
-    };
-    if is_in_code && may_hold_call(stack, call) {
+    let offset = offset_at(stack.modules, call)?;
+    if offset >= 4096 && may_hold_call(stack, call) {
         Some(StackFrame {
             instruction,
             stack_pointer,
