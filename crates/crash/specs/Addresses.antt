@@ -29,7 +29,8 @@ use Rattle.crash.specs.Stacks.{named_stack}
 abbrev pub null_offset : ℕ → Option ℕ
 null_offset address = if nat_lt address 0x1_0000 then Some address else None
 
--- bits 47 to 63 of an address of x86-64 are alike; other processors have no such rule here
+-- bits 47 to 63 of an address of x86-64 are alike, with 48-bit addresses: 57-bit addresses are not told apart. Other
+-- processors have no such rule here
 abbrev pub canonical_on : Cpu → ℕ → Bool
 canonical_on X86_64 address = nat_lt address (2 ^ 47) || nat_le (2 ^ 64 - 2 ^ 47) address
 canonical_on _ address = true

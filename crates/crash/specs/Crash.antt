@@ -8,7 +8,6 @@ use Rattle.minidump.specs.Below.System.Reads.{and_then}
 use Rattle.minidump.specs.Dump.{Dump, dump_in}
 use Rattle.stack_walk.specs.Frames.{StackValue}
 use Rattle.crash.specs.declared.crash.Crash.{Crash}
-use Rattle.crash.specs.declared.crash.Findings.{Findings}
 use Rattle.crash.specs.declared.damage.Damage.{Damage}
 use Rattle.crash.specs.Cause.{CauseValue, cause_in, cause_of}
 use Rattle.crash.specs.Contents.{ContentsValue, contents_in, contents_of}
@@ -41,19 +40,6 @@ crash_of c = record {
   point = option_map point_of c.point;
   modules = modules_of c.modules;
   damage = c.damage.items;
-}
-
--- the crash of streams and of the `Findings` in them
-abbrev pub crash_of_findings : ContentsValue → Findings → CrashValue
-crash_of_findings c f = record {
-  contents = c;
-  directory = directory_of f.directory;
-  process = process_of f.process;
-  cause = cause_of f.cause;
-  threads = threads_of f.threads;
-  point = option_map point_of f.point;
-  modules = modules_of f.modules;
-  damage = f.damage.items;
 }
 
 -- what is there and can't be read

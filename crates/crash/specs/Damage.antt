@@ -145,8 +145,6 @@ stack_damage t = if t.is_stack_outside then Some (damage.Stack t.id) else None
 abbrev pub damage_by : List StreamEntry → List (Option Damage) → List (Result Exception Error)
     → List (Result ExceptionValue Error) → List ThreadValue → List Damage
 damage_by streams counted records exceptions threads = filter_map stream_damage streams
-    ++ (filter_map (λ d. d) counted
-    ++ (filter_map exception_error (before_last exceptions)
-    ++ (filter_map parameters_damage records
-    ++ (filter_map exception_damage exceptions
-    ++ (filter_map context_damage threads ++ filter_map stack_damage threads)))))
+    ++ filter_map (λ d. d) counted ++ filter_map exception_error (before_last exceptions)
+    ++ filter_map parameters_damage records ++ filter_map exception_damage exceptions
+    ++ filter_map context_damage threads ++ filter_map stack_damage threads

@@ -1,5 +1,5 @@
 -- The threads of a process, and which of them crashed.
-use Rattle.std.specs.Prelude.{ℕ, ◌==◌, ◌++◌, Bool, false, true, List, [], ◌∷◌, map}
+use Rattle.std.specs.Prelude.{ℕ, ◌==◌, ◌++◌, Bool, false, true, List, [], ◌∷◌, length, map}
 use Rattle.std.specs.Prelude.{is_some, Option, Some, None, Result, Ok, Err}
 use Rattle.std.specs.Prelude.{if◌then◌else◌, slice_get, string_bytes, unwrap_or}
 use Rattle.std.specs.Option.{option_and_then, option_map, option_map_or}
@@ -164,12 +164,8 @@ crashed_thread t = option_and_then
 abbrev pub extra_walked : ContentsValue → Option Exception → Option (StackValue × MinidumpContext)
 extra_walked c e = option_and_then (exception_walked c) (unlisted c e)
 
--- those of each thread of the list, and after them of the thread that it lacks
-abbrev pub all_walked : ContentsValue → Option Exception → List (Option (StackValue × MinidumpContext))
-all_walked c e =
-    map (thread_walked c e) (entries_in c.threads.threads) ++ (extra_walked c e ∷ [])
-
--- those of the thread of an index, by the exception that counts
+-- those of the thread of an index, by the exception that counts: of the list, or the one after it
 abbrev pub walked_at : ContentsValue → ℕ → Option (StackValue × MinidumpContext)
-walked_at c index =
-    option_and_then (λ w. w) (slice_get (all_walked c (counting_exception c)) index)
+walked_at c index = option_map_or (thread_walked c (counting_exception c))
+    (slice_get (entries_in c.threads.threads) index)
+    (if index == length (entries_in c.threads.threads) then extra_walked c (counting_exception c) else None)

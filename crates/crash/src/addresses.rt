@@ -27,9 +27,9 @@ pub struct AddressFacts {
     /// The same if it is below 0x10000, where Windows maps no memory, nor Linux by default but on
     /// ARM: an offset from a null pointer.
     pub null_offset: Option<u64>,
-    /// Whether the processor can access it: on x86-64 whether bits 47 to 63 are alike; true on
-    /// other processors, and without system information. For an access to an address that isn't
-    /// canonical, the exception often has 0 or 2^64 - 1 in its place.
+    /// Whether the processor can access it: on x86-64, with 48-bit addresses, whether bits 47 to 63 are
+    /// alike; true on other processors, and without system information. For an access to an address that
+    /// isn't canonical, the exception often has 0 or 2^64 - 1 in its place.
     pub is_canonical: bool,
     /// The index in the list of modules of the kept one that contains it, and the offset in that.
     pub module: Option<(usize, u64)>,

@@ -4,16 +4,13 @@ ghost use Rattle.minidump.specs.Below.Contexts.Context.{map_ok};
 ghost use Rattle.minidump.specs.Below.Format.Answer.{Gives};
 ghost use Rattle.minidump.specs.Dump.{dump_in};
 ghost use Rattle.minidump.specs.DumpValue.{dump_of};
-ghost use Rattle.crash.specs.Cause.{cause_in, cause_of};
+ghost use Rattle.crash.specs.Cause.{cause_of};
 ghost use Rattle.crash.specs.Contents.{contents_in, contents_of};
-ghost use Rattle.crash.specs.Crash.{crash_by, crash_in, crash_of, crash_of_findings, damage_in};
-ghost use Rattle.crash.specs.Crash.{status_of, walked_in};
+ghost use Rattle.crash.specs.Crash.{crash_by, crash_in, crash_of, damage_in, status_of, walked_in};
 ghost use Rattle.crash.specs.Frames.{walked_of};
-ghost use Rattle.crash.specs.Directory.{directory_in, directory_of};
-ghost use Rattle.crash.specs.Modules.{modules_in, modules_of};
-ghost use Rattle.crash.specs.Point.{point_in, point_of};
-ghost use Rattle.crash.specs.Process.{process_in, process_of};
-ghost use Rattle.crash.specs.Threads.{threads_in, threads_of};
+ghost use Rattle.crash.specs.Directory.{directory_of};
+ghost use Rattle.crash.specs.Process.{process_of};
+ghost use Rattle.crash.specs.Threads.{threads_of};
 
 use crate::cause::{CrashCause, cause_of};
 use crate::contents::{Contents, read_contents};
@@ -106,56 +103,15 @@ fn crash_of_dump<'a>(
     ensures memory { IsOkUnless result Error.OutOfMemory }
 {
     let contents = read_contents(alloc, dump)?;
-    let findings = findings_in(alloc, file, dump, &contents, names, scan)?;
-    Ok(crash_of_findings(contents, findings))
-}
-
-// What is found in the streams of a dump.
-#[derive(Drop)]
-pub(crate) struct Findings<'a> {
-    directory: CrashDirectory,
-    process: CrashProcess,
-    cause: CrashCause,
-    threads: CrashThreads,
-    point: Option<CrashPoint<'a>>,
-    modules: CrashModules,
-    damage: Vec<Damage>,
-}
-
-// Puts the streams and what is found in them together.
-fn crash_of_findings<'a>(contents: Contents<'a>, findings: Findings<'a>) -> Crash<'a>
-    ensures { crash_of result ≡ crash_of_findings (contents_of contents.entry) findings.entry }
-{
-    Crash {
+    let directory = directory_of(alloc, file, dump, &contents)?;
+    let process = process_of(alloc, dump, &contents)?;
+    let cause = cause_of(alloc, &contents, names)?;
+    let threads = threads_of(alloc, &contents, names, scan)?;
+    let point = point_of(alloc, &contents, threads.crashing)?;
+    let modules = modules_of(alloc, file, dump, &contents)?;
+    let damage = damage_in(alloc, &contents, &directory, &process, &cause, &threads)?;
+    Ok(Crash {
         contents,
-        directory: findings.directory,
-        process: findings.process,
-        cause: findings.cause,
-        threads: findings.threads,
-        point: findings.point,
-        modules: findings.modules,
-        damage: findings.damage,
-    }
-}
-
-// Returns what is found in the streams of a dump.
-fn findings_in<'a>(
-    alloc: Global,
-    file: &[u8],
-    dump: &Minidump<'_>,
-    contents: &Contents<'a>,
-    names: &CodeNames<'_>,
-    scan: usize,
-) -> Result<Findings<'a>, Error>
-    requires { dump_in file.now ≡ Ok (dump_of dump.now) }
-    ensures findings { IfOk result (λ f. crash_of_findings (contents_of contents.now) f
-        ≡ crash_by names.now scan (dump_of dump.now) (contents_of contents.now)) }
-    ensures memory { IsOkUnless result Error.OutOfMemory }
-{
-    let (directory, process, modules) = dump_parts(alloc, file, dump, contents)?;
-    let (cause, threads, point) = thread_parts(alloc, contents, names, scan)?;
-    let damage = damage_in(alloc, contents, &directory, &process, &cause, &threads)?;
-    Ok(Findings {
         directory,
         process,
         cause,
@@ -164,48 +120,6 @@ fn findings_in<'a>(
         modules,
         damage,
     })
-}
-
-// Returns what the header and the directory say, what is known of the process, and its modules.
-fn dump_parts(
-    alloc: Global,
-    file: &[u8],
-    dump: &Minidump<'_>,
-    contents: &Contents<'_>,
-) -> Result<(CrashDirectory, CrashProcess, CrashModules), Error>
-    requires { dump_in file.now ≡ Ok (dump_of dump.now) }
-    ensures directory { IfOk result (λ parts. directory_of parts.0
-        ≡ directory_in (dump_of dump.now) (contents_of contents.now)) }
-    ensures process { IfOk result (λ parts. process_of parts.1
-        ≡ process_in (dump_of dump.now) (contents_of contents.now)) }
-    ensures modules { IfOk result (λ parts. modules_of parts.2
-        ≡ modules_in (dump_of dump.now) (contents_of contents.now)) }
-    ensures memory { IsOkUnless result Error.OutOfMemory }
-{
-    let directory = directory_of(alloc, file, dump, contents)?;
-    let process = process_of(alloc, dump, contents)?;
-    Ok((directory, process, modules_of(alloc, file, dump, contents)?))
-}
-
-// Returns where and why the process crashed, its threads, and where the thread that crashed stands.
-fn thread_parts<'a>(
-    alloc: Global,
-    contents: &Contents<'a>,
-    names: &CodeNames<'_>,
-    scan: usize,
-) -> Result<(CrashCause, CrashThreads, Option<CrashPoint<'a>>), Error>
-    ensures cause { IfOk result
-        (λ parts. cause_of parts.0 ≡ cause_in names.now (contents_of contents.now)) }
-    ensures threads { IfOk result
-        (λ parts. threads_of parts.1 ≡ threads_in names.now scan (contents_of contents.now)) }
-    ensures point { IfOk result (λ parts. option_map point_of parts.2
-        ≡ point_in (contents_of contents.now) parts.1.crashing) }
-    ensures memory { IsOkUnless result Error.OutOfMemory }
-{
-    let cause = cause_of(alloc, contents, names)?;
-    let threads = threads_of(alloc, contents, names, scan)?;
-    let point = point_of(alloc, contents, threads.crashing)?;
-    Ok((cause, threads, point))
 }
 
 // Returns what is there and can't be read.

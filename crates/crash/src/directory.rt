@@ -135,10 +135,7 @@ fn last_error(exceptions: &[Result<MinidumpException<'_>, Error>]) -> Option<Err
 fn raw_error(dump: &Minidump<'_>, number: u32) -> Option<Error>
     ensures { result ≡ raw_error (dump_of dump.now) number }
 {
-    match dump.get_raw_stream(number) {
-        Ok(_) | Err(Error::OutOfMemory) => None,
-        Err(error) => Some(error),
-    }
+    dump.get_raw_stream(number).err()
 }
 
 // Returns the number of entries that are lost.

@@ -1,5 +1,5 @@
 -- One list after another.
-use Rattle.std.proofs.Common.{◌≡◌, ◌∙◌, ◌-◌, ◌++◌, List, Option, ap, append_assoc, length, rules, take, tests}
+use Rattle.std.proofs.Common.{◌≡◌, ◌∙◌, ◌-◌, ◌++◌, List, Option, ap, length, refl, rules, take, tests}
 use Rattle.std.proofs.lemmas.Iterator.{YieldsList-from_slice, items_from_collect}
 use Rattle.std.proofs.lemmas.Iterator.Consumers.{YieldsList-at, YieldsList-from_chain, YieldsList-from_filter_map}
 use Rattle.std.proofs.lemmas.Result.{IfOk-weaker}
@@ -14,8 +14,8 @@ use Rattle.crash.proofs.Found.{found_in_values, values_before}
 use Rattle.crash.proofs.damage.damage_of.Goals as goal
 
 joined : {D : Type 0} (a b : List D) {c c' d d' e e' f f' g g' : List D} → c ≡ c' → d ≡ d' → e ≡ e' → f ≡ f' → g ≡ g'
-    → (((((a ++ b) ++ c) ++ d) ++ e) ++ f) ++ g ≡ a ++ (b ++ (c' ++ (d' ++ (e' ++ (f' ++ g')))))
-joined a b same_c same_d same_e same_f same_g = rw (same_c, same_d, same_e, same_f, same_g) (simp append_assoc)
+    → a ++ b ++ c ++ d ++ e ++ f ++ g ≡ a ++ b ++ c' ++ d' ++ e' ++ f' ++ g'
+joined a b same_c same_d same_e same_f same_g = rw (same_c, same_d, same_e, same_f, same_g) refl
 
 pub returns : goal.returns
 returns c =

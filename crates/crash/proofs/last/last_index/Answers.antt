@@ -1,7 +1,9 @@
 -- The next item, or one before it.
-use Rattle.std.proofs.Common.{refl}
+use Rattle.std.proofs.Common.{◌∙◌, ap, refl}
 use Rattle.std.proofs.lemmas.Fn.{says_at}
-use Rattle.crash.proofs.Lasts.{all_indices, next_index}
+use Rattle.std.proofs.lemmas.List.{take_all}
+use Rattle.crash.specs.Last.{last_index}
+use Rattle.crash.proofs.Lasts.{next_index}
 use Rattle.crash.proofs.last.last_index.Goals as goal
 use Rattle.crash.proofs.last.last_index.Goals.{then-is_chosen, else-is_chosen}
 
@@ -14,4 +16,4 @@ loop-index-preserved g c = λ test tells.
 
 pub returns : goal.returns
 returns g c = λ test tells.
-    all_indices test c.args.items.now c.loop-index.index c.loop-index.last c.loop-index-test.false (c.loop-index.invariant test tells)
+    c.loop-index.invariant test tells ∙ ap (last_index test) (take_all c.loop-index.index c.args.items.now c.loop-index-test.false)

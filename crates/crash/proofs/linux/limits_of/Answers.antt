@@ -2,7 +2,7 @@
 use Rattle.std.proofs.Common.{map}
 use Rattle.minidump.specs.Below.Bytes.LinuxOsStr.{text_of}
 use Rattle.crash.specs.Linux.{limit_in, limit_of}
-use Rattle.crash.proofs.LinuxLemmas.{last_found, next_found}
+use Rattle.crash.proofs.Found.{last_found, next_found}
 use Rattle.crash.proofs.linux.limits_of.Goals as goal
 
 pub loop-line-preserved : goal.loop-line-preserved

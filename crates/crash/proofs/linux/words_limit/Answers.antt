@@ -1,10 +1,18 @@
 -- The words before the first limit, and those from it on.
-use Rattle.std.proofs.Common.{refl}
-use Rattle.std.proofs.lemmas.List.{drop-map, take-map}
+use Rattle.std.proofs.Common.{◌≡◌, Bool, List, [], ◌∷◌, map, refl}
+use Rattle.std.proofs.lemmas.List.{drop-map, length-map, take-map}
+use Rattle.std.specs.List.{position, position_or_len}
 use Rattle.minidump.specs.Below.Bytes.LinuxOsStr.{text_of}
 use Rattle.crash.specs.Linux.{is_limit}
-use Rattle.crash.proofs.LinuxLemmas.{first_value}
 use Rattle.crash.proofs.linux.words_limit.Goals as goal
+
+from_first : {X Y : Type 0} (p : Y → Bool) (f : X → Y) (xs : List X) → position_or_len p (map f xs) ≡ position_or_len (λ x. p (f x)) xs
+from_first p f [] = refl
+from_first p f (x ∷ xs) = rw (from_first p f xs) refl
+
+-- the first value that passes is that of the first item whose value passes
+first_value : {X Y : Type 0} (p : Y → Bool) (f : X → Y) (xs : List X) → position p (map f xs) ≡ position (λ x. p (f x)) xs
+first_value p f xs = rw (from_first p f xs, length-map xs f) refl
 
 pub returns-in-Some : goal.returns-in-Some
 returns-in-Some c =
