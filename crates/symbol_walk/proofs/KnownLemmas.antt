@@ -7,8 +7,7 @@ use Rattle.std.proofs.lemmas.List.{map_more}
 use Rattle.std.proofs.lemmas.List.Elements.{filter_map-append}
 use Rattle.symbol_walk.specs.declared.registers.KnownRegister.{KnownRegister}
 use Rattle.symbol_walk.specs.declared.registers.Register.{Register}
-use Rattle.symbol_walk.specs.Registers.{RegisterRow, is_frame_pointer, is_stack_pointer, known_by, known_frame_pointer, known_of, known_stack_pointer}
-use Rattle.symbol_walk.specs.Registers.{known_value, labelled_value, row_of, value_where}
+use Rattle.symbol_walk.specs.Registers.{RegisterRow, known_by, known_of, known_value, row_of, value_where}
 
 module _ (value : RegisterRow → Option ℕ) where
   -- one more
@@ -27,27 +26,9 @@ pub known_found : (ks : List KnownRegister) (name : List ℕ)
 known_found [] name = refl
 known_found (k ∷ ks) name = grind (arith, known_found ks name)
 
-found_where : (test : RegisterRow → Bool) (rs : List Register) (known : List (List ℕ × ℕ))
+-- and that of the first register that passes a test
+pub found_where : (test : RegisterRow → Bool) (rs : List Register) (known : List (List ℕ × ℕ))
     → value_where test (map row_of rs) known ≡ option_and_then (λ (r : Register). known_value known r.name.now) (find (λ (r : Register). test (row_of r)) rs)
+unfolding value_where
 found_where test [] known = refl
 found_where test (r ∷ rs) known = grind (arith, found_where test rs known)
-
--- the value by the label
-pub label_found : (rs : List Register) (known : List (List ℕ × ℕ)) (label : List ℕ)
-    → labelled_value (map row_of rs) known label
-    ≡ option_and_then (λ (r : Register). known_value known r.name.now) (find (λ (r : Register). bytes_eq r.label.now label) rs)
-unfolding labelled_value
-label_found rs known label = found_where (λ r. bytes_eq r.label label) rs known
-
--- those of both pointers
-pub stack_pointer_found : (rs : List Register) (known : List (List ℕ × ℕ))
-    → known_stack_pointer (map row_of rs) known
-    ≡ option_and_then (λ (r : Register). known_value known r.name.now) (find (λ (r : Register). is_stack_pointer r.role) rs)
-unfolding known_stack_pointer
-stack_pointer_found rs known = found_where (λ r. is_stack_pointer r.role) rs known
-
-pub frame_pointer_found : (rs : List Register) (known : List (List ℕ × ℕ))
-    → known_frame_pointer (map row_of rs) known
-    ≡ option_and_then (λ (r : Register). known_value known r.name.now) (find (λ (r : Register). is_frame_pointer r.role) rs)
-unfolding known_frame_pointer
-frame_pointer_found rs known = found_where (λ r. is_frame_pointer r.role) rs known

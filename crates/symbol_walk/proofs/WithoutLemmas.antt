@@ -1,6 +1,5 @@
 -- Without symbols a walk is that by frame pointers.
 use Rattle.std.proofs.Common.{◌≡◌, ◌∙◌, ℕ, List, [], ◌∷◌, Bool, false, Option, Some, None, refl, ap, sym, arith}
-use Rattle.std.specs.Prelude.{◌&&◌}
 use Rattle.std.specs.List.{find}
 use Rattle.std.specs.Option.{option_and_then, option_map, option_map_or}
 use Rattle.minidump.specs.Below.Modules.Module.{ModuleValue}
@@ -14,7 +13,7 @@ use Rattle.stack_walk.specs.Walk.{callers_in as pointer_callers}
 use Rattle.stack_walk.proofs.CallerLemmas.{callers_are}
 use Rattle.breakpad_symbols.specs.SymbolFile.{SymbolsValue}
 use Rattle.symbol_walk.specs.Frames.{HaveNone}
-use Rattle.symbol_walk.specs.Rules.{goes_on, rules_at}
+use Rattle.symbol_walk.specs.Rules.{rules_at}
 use Rattle.symbol_walk.specs.Scan.{in_function, next_words, restart_of, restarts}
 use Rattle.symbol_walk.specs.Symbols.{symbols_at}
 use Rattle.symbol_walk.specs.Unwinder.{FrameValue, UnwinderValue, pointer_frame}
@@ -33,9 +32,6 @@ not_called : (u : UnwinderValue) (o : Option ℕ) → HaveNone u.symbols → opt
 unfolding in_function
 not_called u o none = grind (arith, no_symbols)
 
-and_false : (b : Bool) → (b && false) ≡ false
-and_false b = grind arith
-
 none_then : {A B : Type 0} (f : A → Option B) (o : Option A) → ((x : A) → f x ≡ None) → option_and_then f o ≡ None
 none_then f None none = refl
 none_then f (Some x) none = none x
@@ -49,7 +45,7 @@ unfolding restart_of restarts
 no_restart u f none =
     none_then (λ size. find (restarts u f) (word_candidates u.stack (next_words f size))) (pointer_bytes u.stack.width)
     (λ size. find_none (restarts u f) (word_candidates u.stack (next_words f size))
-    (λ candidate. rw (not_called u (lookup_address u.stack.cpu candidate) none) (and_false (goes_on u.stack f candidate.stack_pointer))))
+    (λ candidate. rw (not_called u (lookup_address u.stack.cpu candidate) none) (grind arith)))
 
 -- the caller is that by the frame pointer
 caller_is : (u : UnwinderValue) (f : FrameValue) → HaveNone u.symbols → caller_of u f ≡ option_map (pointer_frame u) (pointer_caller u.stack f.frame)

@@ -109,11 +109,11 @@ abbrev pub known_value : List (List ℕ × ℕ) → List ℕ → Option ℕ
 known_value known name = option_map (λ k. k.1) (find (λ k. bytes_eq k.0 name) known)
 
 -- the known value of the first register of a table that passes a test
-abbrev pub value_where : (RegisterRow → Bool) → List RegisterRow → List (List ℕ × ℕ) → Option ℕ
+unfoldable pub value_where : (RegisterRow → Bool) → List RegisterRow → List (List ℕ × ℕ) → Option ℕ
 value_where test table known = option_and_then (λ r. known_value known r.name) (find test table)
 
 -- the known value of the register with a label
-unfoldable pub labelled_value : List RegisterRow → List (List ℕ × ℕ) → List ℕ → Option ℕ
+abbrev pub labelled_value : List RegisterRow → List (List ℕ × ℕ) → List ℕ → Option ℕ
 labelled_value table known label = value_where (λ r. bytes_eq r.label label) table known
 
 abbrev pub is_stack_pointer : RegisterRole → Bool
@@ -125,8 +125,8 @@ is_frame_pointer FramePointer = true
 is_frame_pointer _ = false
 
 -- the known values of both pointers
-unfoldable pub known_stack_pointer : List RegisterRow → List (List ℕ × ℕ) → Option ℕ
+abbrev pub known_stack_pointer : List RegisterRow → List (List ℕ × ℕ) → Option ℕ
 known_stack_pointer table known = value_where (λ r. is_stack_pointer r.role) table known
 
-unfoldable pub known_frame_pointer : List RegisterRow → List (List ℕ × ℕ) → Option ℕ
+abbrev pub known_frame_pointer : List RegisterRow → List (List ℕ × ℕ) → Option ℕ
 known_frame_pointer table known = value_where (λ r. is_frame_pointer r.role) table known

@@ -175,7 +175,7 @@ fn known_at<'k>(known: &'k [KnownRegister], name: &str) -> Option<&'k KnownRegis
 }
 
 // Returns the known value of the register with a label.
-#[tactic(auto, using(crate::proofs::KnownLemmas::label_found))]
+#[tactic(auto, using(crate::proofs::KnownLemmas::found_where))]
 pub(crate) fn labelled_value(
     table: &[Register],
     known: &[KnownRegister],
@@ -194,7 +194,7 @@ fn labelled<'t>(table: &'t [Register], label: &[u8]) -> Option<&'t Register>
 }
 
 // Returns the known value of the stack pointer.
-#[tactic(auto, using(crate::proofs::KnownLemmas::stack_pointer_found))]
+#[tactic(auto, using(crate::proofs::KnownLemmas::found_where))]
 pub(crate) fn known_stack_pointer(table: &[Register], known: &[KnownRegister]) -> Option<u64>
     ensures { result ≡ known_stack_pointer (map row_of table.now) (map known_of known.now) }
 {
@@ -211,7 +211,7 @@ fn stack_pointer(table: &[Register]) -> Option<&Register>
 }
 
 // Returns the known value of the frame pointer.
-#[tactic(auto, using(crate::proofs::KnownLemmas::frame_pointer_found))]
+#[tactic(auto, using(crate::proofs::KnownLemmas::found_where))]
 pub(crate) fn known_frame_pointer(table: &[Register], known: &[KnownRegister]) -> Option<u64>
     ensures { result ≡ known_frame_pointer (map row_of table.now) (map known_of known.now) }
 {
