@@ -16,10 +16,11 @@
 //!
 //! A frame is looked up by its address, which for a caller is the one below its return address, in the
 //! call; on ARM of 32 bits bit 0 of the return address is cleared first. Its function is the kept one
-//! whose range has the address, else the nearest public symbol. Where the compiler put calls in place,
-//! the line record of the address is the innermost call's; each other function is at the line of the
-//! call in it. At most 1,000 calls in one another are looked for. All names are borrowed from the
-//! symbol files.
+//! whose range has the address, else the nearest public symbol at or below it, unless that is at the
+//! module's base, or a function begins between the two or at one of them. Where the compiler put calls
+//! in place, the line record of the address is the innermost call's; each other function is at the line
+//! of the call in it. At most 1,000 calls in one another are looked for. All names are borrowed from
+//! the symbol files.
 //!
 //! # Errors
 //!
