@@ -1,5 +1,4 @@
--- How a text of a dump is printed, so that it neither begins a line nor changes what a terminal
--- shows.
+-- How a text of a dump is printed, so that it begins no line.
 use Rattle.std.specs.Prelude.{ℕ, Bool, false, not, ◌&&◌, ◌||◌, ◌==◌, nat_le, List, [], ◌∷◌, ◌++◌}
 use Rattle.std.specs.Prelude.{chars, codes, encode_utf8_all, if◌then◌else◌}
 use Rattle.std.specs.Fmt.{digits}

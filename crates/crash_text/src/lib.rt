@@ -49,10 +49,9 @@
 //! line, as `no exception`; any other missing stream has none. What [`TextLimits`] leaves out is
 //! told by its number alone.
 //!
-//! A text of the dump can't begin a line, nor change what a terminal shows: control characters,
-//! ends of lines and marks of direction are printed as escapes, as `\u{1b}`. A backslash stays as
-//! it is, so that paths of Windows can be read: a text may look like an escape, and a name may hold
-//! quotation marks.
+//! A text of the dump can't begin a line: control characters, ends of lines and marks of direction
+//! are printed as escapes, as `\u{1b}`. A backslash stays as it is, so that paths of Windows can be
+//! read: a text may look like an escape, and a name may hold quotation marks.
 //!
 //! # Errors
 //!

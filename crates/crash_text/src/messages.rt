@@ -116,6 +116,7 @@ fn has_annotations(module: &MinidumpModuleCrashpadInfo) -> bool
         || module.annotation_objects.len() > 0
 }
 
+// Appends the line before the annotations of a module, by its index.
 #[tactic(auto, unfolding(crate::specs::Messages::module_row))]
 fn push_module_row(out: &mut String, index: usize) -> Added
     ensures { Adds out.old out.new (module_row index ∷ []) result }
@@ -159,6 +160,7 @@ fn push_objects(out: &mut String, objects: &BTreeMap<String, MinidumpAnnotation>
     Ok(())
 }
 
+// Appends the line of an annotation: its name and its text.
 #[rattlefmt::skip]
 #[tactic(auto, unfolding(crate::specs::Messages::annotation_row))]
 fn push_annotation<'t>(out: &mut String, name: &'t str, text: &'t str) -> Added

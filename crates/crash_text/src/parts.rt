@@ -71,7 +71,7 @@ pub(crate) enum Part<'a> {
     TextAfter(&'a str, &'a Option<String>),
     // a text after words, if there is one
     Said(&'a str, Option<&'a str>),
-    // the text of code units after words, unless it is empty
+    // the text of UTF-16 up to its first 0 after words, unless it is empty or malformed
     Units(&'a str, &'a [u16]),
     // a text of Linux after words, if there is one, with U+FFFD for what isn't UTF-8
     Lossy(&'a str, Option<LinuxOsStr<'a>>),
@@ -99,7 +99,7 @@ pub(crate) enum Part<'a> {
     Record(&'a CrashException),
     // a source line, if its file is known
     Source(Option<SourceLine<'a>>),
-    // how much there is of a context that is cut, after words
+    // how much there is of a context after words, if it is cut
     Short(&'a str, Option<ShortContext>),
     // flags and segments, each its name and its value
     Flags(&'a [(&'static str, u64)]),
@@ -271,7 +271,7 @@ fn push_after(out: &mut String, words: &str, text: &str) -> Added
     }
 }
 
-// Appends the text of code units after words, unless it is empty.
+// Appends the text of UTF-16 up to its first 0 after words, unless it is empty or malformed.
 fn push_units(out: &mut String, words: &str, units: &[u16]) -> Added
     ensures { OnOk result (string_bytes out.new
         ≡ string_bytes out.old ++ text_after words.now (text_or_empty units.now)) }
@@ -359,7 +359,7 @@ fn push_version(out: &mut String, version: &Option<String>) -> Added
     }
 }
 
-// Appends the name of a file and an identifier, if there is one, after words.
+// Appends words, the name of a file and an identifier, if there is an identifier.
 #[rattlefmt::skip]
 fn push_key<'x>(
     out: &mut String,

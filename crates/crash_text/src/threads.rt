@@ -152,6 +152,7 @@ fn is_range(range: &StackRange, other: &Option<StackRange>) -> bool
     }
 }
 
+// Appends the line of a range of addresses after words.
 #[rattlefmt::skip]
 #[tactic(auto, unfolding(crate::specs::Threads::range_row))]
 fn push_range(out: &mut String, what: &str, range: &StackRange) -> Added

@@ -1,6 +1,5 @@
 -- The parts of a text, one after another, have no control characters but the ends of their lines.
-use Rattle.std.proofs.Common.{◌≡◌, ◌∙◌, ◌++◌, List, ℕ, ap, append_assoc, string_bytes, sym}
-use Rattle.std.proofs.lemmas.Grind.{flat_map-append}
+use Rattle.std.proofs.Common.{◌≡◌, ◌++◌, List, ℕ, refl, string_bytes}
 use Rattle.std.specs.List.{flat_map}
 use Rattle.std.specs.Option.{option_copied, option_map}
 use Rattle.crash.specs.Crash.{crash_of}
@@ -8,14 +7,14 @@ use Rattle.crash_symbols.specs.Shown.{symbolized_of}
 use Rattle.crash_text.specs.Lines.{line_of}
 use Rattle.crash_text.specs.Text.{lines_of}
 use Rattle.crash_text.proofs.LineLemmas.{lines_printed}
+use Rattle.crash_text.proofs.NumberLemmas.{more_lines}
 use Rattle.crash_text.proofs.text.text_of.Goals as goal
 
 -- lines were appended, and then others
 both : (old now new : List ℕ) (lines others : List (List ℕ)) → now ≡ old ++ flat_map line_of lines → new ≡ now ++ flat_map line_of others
     → new ≡ old ++ flat_map line_of (lines ++ others)
 both old now new lines others first then =
-    then ∙ ap (λ t. t ++ flat_map line_of others) first ∙ append_assoc old (flat_map line_of lines) (flat_map line_of others)
-    ∙ ap (λ t. old ++ t) (sym (flat_map-append line_of lines others))
+    more_lines old now new lines others (lines ++ others) refl first then
 
 pub returns : goal.returns
 returns c =
