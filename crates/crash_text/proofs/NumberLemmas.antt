@@ -3,7 +3,6 @@ use Rattle.std.proofs.Common.{◌≡◌, ◌∙◌, ℕ, ◌+◌, ◌<◌, ap, a
 use Rattle.std.proofs.lemmas.Grind.{flat_map-append}
 use Rattle.std.proofs.lemmas.List.{length-map, length-take-le, map-append, take_more}
 use Rattle.std.specs.List.{enumerate_from, flat_map}
-use Rattle.minidump_bytes.proofs.ListLemmas.{enumerate_from-append}
 use Rattle.crash_text.specs.Lines.{line_of}
 
 -- the values of the first items, and of one more
@@ -19,12 +18,19 @@ took_values value xs i x within at = values_more value xs i x within ∙ ap (λ 
 pub length_values : {X Y : Type 0} (value : X → Y) (xs : List X) (i : ℕ) → i < length xs → length (map value (take i xs)) ≡ i
 length_values value xs i within = length-map (take i xs) value ∙ length-take-le i xs (omega (arith, within))
 
--- items with their numbers, and one more
+-- one more item, with its number
+enumerate_more : {X : Type 0} (n : ℕ) (xs : List X) (x : X) → enumerate_from n (xs ++ x ∷ []) ≡ enumerate_from n xs ++ (n + length xs, x) ∷ []
+enumerate_more n [] x = ap (λ k. (k, x) ∷ []) (omega arith)
+enumerate_more n (y ∷ ys) x =
+    let same : (n + 1) + length ys ≡ n + length (y ∷ ys) = omega arith in
+    ap (λ rest. (n, y) ∷ rest) (enumerate_more (n + 1) ys x ∙ ap (λ k. enumerate_from (n + 1) ys ++ (k, x) ∷ []) same)
+
+-- the same from 0 on
 numbered_more : {Y : Type 0} (ys next : List Y) (i : ℕ) (y : Y) → length ys ≡ i → next ≡ ys ++ y ∷ []
     → enumerate_from 0 next ≡ enumerate_from 0 ys ++ (i, y) ∷ []
 numbered_more ys next i y len is =
     let number : 0 + length ys ≡ i = omega (arith, len) in
-    ap (enumerate_from 0) is ∙ enumerate_from-append 0 ys (y ∷ []) ∙ ap (λ k. enumerate_from 0 ys ++ (k, y) ∷ []) number
+    ap (enumerate_from 0) is ∙ enumerate_more 0 ys y ∙ ap (λ k. enumerate_from 0 ys ++ (k, y) ∷ []) number
 
 -- what is made of them
 pub more_items : {Y Z : Type 0} (f : ℕ × Y → List Z) (ys next : List Y) (i : ℕ) (y : Y) → length ys ≡ i → next ≡ ys ++ y ∷ []

@@ -1,5 +1,5 @@
 -- The lines of the lists of a dump: how many items each has and, if lists are asked for, the items.
-use Rattle.std.specs.Prelude.{ℕ, ◌++◌, ◌||◌, Bool, true, is_none, List, [], ◌∷◌, length, map}
+use Rattle.std.specs.Prelude.{ℕ, ◌++◌, ◌||◌, Bool, is_none, List, [], ◌∷◌, length, map}
 use Rattle.std.specs.Prelude.{Option, Some, Result, Ok, Err, codes, if◌then◌else◌}
 use Rattle.std.specs.Fmt.{decimal}
 use Rattle.std.specs.List.{concat}
@@ -17,9 +17,9 @@ use Rattle.crash.specs.Modules.{UnloadedModuleValue}
 use Rattle.crash_text.specs.declared.limits.TextLimits.{TextLimits}
 use Rattle.crash_text.specs.Damage.{stream_text}
 use Rattle.crash_text.specs.Lines.{if_some}
-use Rattle.crash_text.specs.Modules.{all_modules, end_text, key_text}
+use Rattle.crash_text.specs.Modules.{all_modules, key_text}
 use Rattle.crash_text.specs.Page.{PageValue}
-use Rattle.crash_text.specs.Words.{count_row, error_words, hex_or, lossy_if, text_if}
+use Rattle.crash_text.specs.Words.{count_row, error_words, hex_if, hex_or, lossy_if, text_if}
 
 -- the number of items, and the lines of them if they are asked for
 abbrev pub list_lines : {X : Type 0} → Bool → List ℕ → (X → List ℕ) → List X → List (List ℕ)
@@ -38,7 +38,7 @@ entry_line e = concat (codes "    " ∷ stream_text e.number ∷ codes " (" ∷ 
 -- the line of a module that was unloaded: its base address, its end, its path, and the name and the
 -- identifier of its code file
 unfoldable pub unloaded_line : UnloadedModuleValue → List ℕ
-unloaded_line m = concat (codes "    " ∷ hex m.base ∷ end_text true m.end ∷ codes " " ∷ m.path
+unloaded_line m = concat (codes "    " ∷ hex m.base ∷ hex_if (codes "-") m.end ∷ codes " " ∷ m.path
     ∷ key_text (codes ", code ") (Some m.file) m.code_id ∷ [])
 
 -- the modules that were unloaded, where their list can be read

@@ -1,6 +1,6 @@
 -- The lines of modules: how many there are, and those that have the address of the crash or a
 -- printed frame, in the order of their addresses, with what a symbol server is asked by.
-use Rattle.std.specs.Prelude.{ℕ, ◌≡◌, ◌<◌, ◌==◌, ◌||◌, Bool, false, true, List, [], ◌∷◌, bytes_eq}
+use Rattle.std.specs.Prelude.{ℕ, ◌≡◌, ◌<◌, ◌==◌, ◌||◌, Bool, false, List, [], ◌∷◌, bytes_eq}
 use Rattle.std.specs.Prelude.{get_or, length, Option, Some, None, codes, if◌then◌else◌, slice_get}
 use Rattle.std.specs.List.{concat, flat_map, list_any}
 use Rattle.std.specs.Option.{option_and_then}
@@ -17,7 +17,7 @@ use Rattle.crash_symbols.specs.Symbols.{state_at}
 use Rattle.crash_text.specs.declared.limits.TextLimits.{TextLimits}
 use Rattle.crash_text.specs.Page.{PageValue}
 use Rattle.crash_text.specs.Threads.{frames_in}
-use Rattle.crash_text.specs.Words.{count_row, if_missing}
+use Rattle.crash_text.specs.Words.{count_row, hex_if, if_missing}
 
 -- ---- a module
 
@@ -37,11 +37,9 @@ version_text None = []
 abbrev pub all_modules : TextLimits → Bool
 all_modules limits = limits.lists || limits.modules
 
--- the words for the address after a module, where all modules are asked for and it is known
-abbrev pub end_text : Bool → Option ℕ → List ℕ
-end_text true (Some end) = concat (codes "-" ∷ hex end ∷ [])
-end_text true None = []
-end_text false end = []
+-- the address after a module, where all modules are asked for
+abbrev pub end_if : Bool → Option ℕ → Option ℕ
+end_if is_asked end = if is_asked then end else None
 
 -- the words for why a module has no symbols, where they were looked for
 abbrev pub state_text : SymbolState → List ℕ
@@ -60,8 +58,8 @@ symbols_text None index = []
 -- version, and what a symbol server is asked by: the names and the identifiers of its debug file
 -- and of its code file; and the words for its symbols
 unfoldable pub module_line : Bool → LoadedValue → List ℕ → List ℕ
-module_line is_asked m symbols = concat (codes "    " ∷ hex m.base ∷ end_text is_asked m.end
-    ∷ codes " " ∷ m.path ∷ version_text m.version
+module_line is_asked m symbols = concat (codes "    " ∷ hex m.base
+    ∷ hex_if (codes "-") (end_if is_asked m.end) ∷ codes " " ∷ m.path ∷ version_text m.version
     ∷ key_text (codes ", debug ") m.debug_file m.debug_id
     ∷ key_text (codes ", code ") (Some m.file) m.code_id ∷ symbols ∷ [])
 

@@ -12,24 +12,23 @@ use Rattle.crash.specs.Cause.{exception_of}
 use Rattle.crash.specs.Modules.{loaded_of}
 use Rattle.crash_symbols.specs.NameParts.{source_of}
 use Rattle.crash_text.specs.declared.parts.Part.{Part}
-use Rattle.crash_text.specs.declared.parts.Part.TheVariants.{Code, Count, Cpu, Date, Decimal}
-use Rattle.crash_text.specs.declared.parts.Part.TheVariants.{DecimalIf, End, Failed, Flags, Guid, Hex}
-use Rattle.crash_text.specs.declared.parts.Part.TheVariants.{HexIf, HexOr, HexUnless, Id, IdIf, If}
-use Rattle.crash_text.specs.declared.parts.Part.TheVariants.{Key, Lossy, Memory, Names, Os, Place}
-use Rattle.crash_text.specs.declared.parts.Part.TheVariants.{Record, Registers, Said, Short, Source}
-use Rattle.crash_text.specs.declared.parts.Part.TheVariants.{Stream, Text, TextAfter, Units, Version}
-use Rattle.crash_text.specs.declared.parts.Part.TheVariants.{Words}
+use Rattle.crash_text.specs.declared.parts.Part.TheVariants.{Code, Count, Cpu, Decimal, DecimalIf}
+use Rattle.crash_text.specs.declared.parts.Part.TheVariants.{Failed, Flags, Guid, Hex, HexIf, HexOr}
+use Rattle.crash_text.specs.declared.parts.Part.TheVariants.{HexUnless, Id, If, Key, Lossy, Memory}
+use Rattle.crash_text.specs.declared.parts.Part.TheVariants.{Names, Os, Place, Record, Registers}
+use Rattle.crash_text.specs.declared.parts.Part.TheVariants.{Said, Short, Source, Stream, Text}
+use Rattle.crash_text.specs.declared.parts.Part.TheVariants.{TextAfter, Units, Version, Words}
 use Rattle.crash_text.specs.Addresses.{memory_words}
 use Rattle.crash_text.specs.Damage.{stream_text}
 use Rattle.crash_text.specs.Frames.{source_text}
-use Rattle.crash_text.specs.Modules.{end_text, key_text, version_text}
+use Rattle.crash_text.specs.Modules.{key_text, version_text}
 use Rattle.crash_text.specs.Point.{code_at, flag_words, names_after}
 use Rattle.crash_text.specs.Records.{record_text}
 use Rattle.crash_text.specs.Registers.{register_words, short_if}
-use Rattle.crash_text.specs.System.{date_after, system_name}
+use Rattle.crash_text.specs.System.{system_name}
 use Rattle.crash_text.specs.Words.{count_if, decimal_if, error_words, hex_if, hex_or, hex_unless}
-use Rattle.crash_text.specs.Words.{id_if, id_words, lossy_if, or_empty, place_text, text_after}
-use Rattle.crash_text.specs.Words.{text_if, words_if}
+use Rattle.crash_text.specs.Words.{id_if, lossy_if, or_empty, place_text, text_after, text_if}
+use Rattle.crash_text.specs.Words.{words_if}
 
 -- what a part of a row writes
 abbrev pub part_text : Part → List ℕ
@@ -42,9 +41,7 @@ part_text (Hex n) = hex n
 part_text (HexIf words n) = hex_if words.now n
 part_text (HexUnless known words n) = hex_unless known words.now n
 part_text (HexOr n words) = hex_or n words.now
-part_text (End is_asked end) = end_text is_asked end
-part_text (Id id) = id_words id
-part_text (IdIf words id) = id_if words.now id
+part_text (Id words id) = id_if words.now id
 part_text (Text before text after) =
     text_if before.now (option_map string_bytes text.now) after.now
 part_text (TextAfter words text) =
@@ -55,7 +52,6 @@ part_text (Lossy words text) = lossy_if words.now (option_map text_of text)
 part_text (Guid guid) = guid_text guid.now
 part_text (Os os) = system_name os
 part_text (Cpu cpu) = cpu_name cpu
-part_text (Date words stamp) = date_after words.now stamp
 part_text (Stream number) = stream_text number
 part_text (Failed error) = error_words error
 part_text (Version version) = version_text (option_map string_bytes version.now)

@@ -44,13 +44,10 @@ release_line r = concat (codes "release"
 unfoldable pub boot_lines : BootArgs → List (List ℕ)
 boot_lines b = table ((text_if (codes "boot arguments ") b.text [] ∷ []) ∷ [])
 
--- a time stamp as a date after words; 0 says nothing
-abbrev pub date_after : List ℕ → ℕ → List ℕ
-date_after words stamp = if stamp == 0 then [] else concat (words ∷ date_text_of stamp ∷ [])
-
--- when the dump was written, by the time stamp of its header
+-- when the dump was written, by the time stamp of its header; 0 says nothing
 unfoldable pub date_lines : ℕ → List (List ℕ)
-date_lines stamp = table ((date_after (codes "dumped  ") stamp ∷ []) ∷ [])
+date_lines stamp =
+    if stamp == 0 then [] else concat (codes "dumped  " ∷ date_text_of stamp ∷ []) ∷ []
 
 -- the threads that requested and wrote the dump, by Breakpad's information
 unfoldable pub breakpad_lines : MinidumpBreakpadInfo → List (List ℕ)

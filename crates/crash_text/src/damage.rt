@@ -1,9 +1,12 @@
 ghost use Rattle.std.specs.Prelude.{◌≡◌};
+ghost use Rattle.std.specs.List.{flat_map};
 ghost use Rattle.crash.specs.Crash.{crash_of};
-ghost use Rattle.crash_text.specs.Damage.{damage_lines, part_words};
+ghost use Rattle.crash_text.specs.Damage.{damage_lines, damage_row, part_words};
 ghost use Rattle.crash_text.specs.Lines.{Adds};
+ghost use Rattle.crash_text.specs.Parts.{part_text};
 
 use crate::lines::{Added, Line, push_each, push_row};
+use crate::parts::Part;
 use crate::parts::Part::{Decimal, Failed, Hex, Id, Stream, Words};
 use crash::{Crash, Damage, ModulePart, UnreadableModule};
 
@@ -18,7 +21,6 @@ pub(crate) fn push_damage(out: &mut String, crash: &Crash<'_>) -> Added
 
 impl Line for Damage {
     ghost use Rattle.crash.specs.declared.damage.Damage.{Damage};
-    ghost use Rattle.crash_text.specs.Damage.{damage_row};
 
     ghost Value = { Damage };
 
@@ -26,44 +28,48 @@ impl Line for Damage {
 
     ghost line = { damage_row };
 
-    #[rattlefmt::skip]
-    #[tactic(auto, unfolding(crate::specs::Damage::damage_row))]
     fn push(&self, out: &mut String) -> Added {
-        match *self {
-            Damage::Stream { number, error } =>
-                push_row(out, &[Words("can't be read: "), Stream(number), Failed(Some(error))]),
-            Damage::Entries { count } => push_row(out, &[
-                Words("outside the file: entries of the directory: "), Decimal(count),
-            ]),
-            Damage::Regions { count } => push_row(out, &[
-                Words("outside the file: regions of the plain list of memory: "), Decimal(count),
-            ]),
-            Damage::Modules { count } => push_row(out, &[
-                Words("can't be read: modules without addresses: "), Decimal(count),
-            ]),
-            Damage::Texts { number, count } => push_row(out, &[
-                Words("can't be read: texts of "), Stream(number), Words(": "), Decimal(count),
-            ]),
-            Damage::Records { number, count } => push_row(out, &[
-                Words("can't be read: records of "), Stream(number), Words(": "), Decimal(count),
-            ]),
-            Damage::Exception { error } => push_row(out, &[
-                Words("can't be read: an exception before the last"), Failed(Some(error)),
-            ]),
-            Damage::Parameters { thread, count } => push_row(out, &[
-                Words("can't be read: parameters of the exception on thread "), Id(thread),
-                Words(": "), Decimal(count),
-            ]),
-            Damage::ExceptionContext { thread } => push_row(out, &[
-                Words("outside the file: the context of the exception on thread "), Id(thread),
-            ]),
-            Damage::ThreadContext { thread } => push_row(out, &[
-                Words("outside the file: the context of thread "), Id(thread),
-            ]),
-            Damage::Stack { thread } => push_row(out, &[
-                Words("outside the file: the stack of thread "), Id(thread),
-            ]),
-        }
+        push_row(out, &parts_of(*self))
+    }
+}
+
+// Returns the parts of the row of something that can't be read.
+#[rattlefmt::skip]
+#[tactic(auto, unfolding(crate::specs::Damage::damage_row))]
+fn parts_of(damage: Damage) -> [Part<'static>; 4]
+    ensures { flat_map part_text result ≡ damage_row damage }
+{
+    let none = Words("");
+    match damage {
+        Damage::Stream { number, error } =>
+            [Words("can't be read: "), Stream(number), Failed(Some(error)), none],
+        Damage::Entries { count } =>
+            [Words("outside the file: entries of the directory: "), Decimal(count), none, none],
+        Damage::Regions { count } => [
+            Words("outside the file: regions of the plain list of memory: "), Decimal(count),
+            none, none,
+        ],
+        Damage::Modules { count } =>
+            [Words("can't be read: modules without addresses: "), Decimal(count), none, none],
+        Damage::Texts { number, count } =>
+            [Words("can't be read: texts of "), Stream(number), Words(": "), Decimal(count)],
+        Damage::Records { number, count } =>
+            [Words("can't be read: records of "), Stream(number), Words(": "), Decimal(count)],
+        Damage::Exception { error } => [
+            Words("can't be read: an exception before the last"), Failed(Some(error)), none, none,
+        ],
+        Damage::Parameters { thread, count } => [
+            Id("can't be read: parameters of the exception on thread ", Some(thread)),
+            Words(": "), Decimal(count), none,
+        ],
+        Damage::ExceptionContext { thread } => [
+            Id("outside the file: the context of the exception on thread ", Some(thread)),
+            none, none, none,
+        ],
+        Damage::ThreadContext { thread } =>
+            [Id("outside the file: the context of thread ", Some(thread)), none, none, none],
+        Damage::Stack { thread } =>
+            [Id("outside the file: the stack of thread ", Some(thread)), none, none, none],
     }
 }
 

@@ -52,7 +52,7 @@ fn push_counted(out: &mut String, crash: &Crash<'_>, exception: &CrashException)
 fn push_crashed_row(out: &mut String, thread: u32) -> Added
     ensures { Adds out.old out.new (crashed_row thread ∷ []) result }
 {
-    push_row(out, &[Words("crashed thread "), Id(thread)])
+    push_row(out, &[Id("crashed thread ", Some(thread))])
 }
 
 // Appends the reason of an exception, its code with where it happened and what else its record says,
@@ -118,7 +118,7 @@ fn push_exception(
 {
     match exception {
         Ok(exception) => push_row(out, &[
-            Words("    #"), Decimal(number as u64), Words(" thread "), Id(exception.thread),
+            Words("    #"), Decimal(number as u64), Id(" thread ", Some(exception.thread)),
             Words(", code "), Hex(exception.code as u64), Words(" at "), Hex(exception.at),
             HexUnless(exception.at, ", address ", exception.address),
             TextAfter(", ", &exception.reason), Record(exception),

@@ -16,7 +16,7 @@ ghost use Rattle.crash_text.specs.Words.{count_row};
 use crate::limits::TextLimits;
 use crate::lines::{Added, Line, push_count, push_each, push_row};
 use crate::page::Page;
-use crate::parts::Part::{Decimal, End, Failed, Hex, HexOr, Key, Lossy, Stream, Text, Words};
+use crate::parts::Part::{Decimal, Failed, Hex, HexIf, HexOr, Key, Lossy, Stream, Text, Words};
 use crash::{
     HandleKind, ProcessLimit, StreamEntry, UnloadedModule, limits_of, regions_of, variables_of,
 };
@@ -108,7 +108,7 @@ impl Line for UnloadedModule {
     #[tactic(auto, unfolding(crate::specs::Lists::unloaded_line))]
     fn push(&self, out: &mut String) -> Added {
         push_row(out, &[
-            Words("    "), Hex(self.base), End(true, self.end), Words(" "),
+            Words("    "), Hex(self.base), HexIf("-", self.end), Words(" "),
             Words(self.path.as_str()), Key(", code ", Some(&self.file), &self.code_id),
         ])
     }

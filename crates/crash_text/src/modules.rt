@@ -2,13 +2,13 @@ ghost use Rattle.std.specs.Prelude.{◌≡◌, IfOk};
 ghost use Rattle.std.specs.Option.{option_copied, option_map};
 ghost use Rattle.crash_symbols.specs.Shown.{symbolized_of};
 ghost use Rattle.crash_text.specs.Lines.{Adds};
-ghost use Rattle.crash_text.specs.Modules.{HasMarks, each_module, is_marked, module_at};
+ghost use Rattle.crash_text.specs.Modules.{HasMarks, each_module, end_if, is_marked, module_at};
 ghost use Rattle.crash_text.specs.Modules.{modules_lines, named_modules, symbols_text};
 ghost use Rattle.crash_text.specs.Page.{page_of};
 
 use crate::lines::{Added, push_count, push_if_missing, push_row};
 use crate::page::Page;
-use crate::parts::Part::{End, Hex, Key, Version, Words};
+use crate::parts::Part::{Hex, HexIf, Key, Version, Words};
 use crate::threads::frames_in;
 use crash::{AddressFacts, CrashFrame};
 use crash_symbols::{SymbolState, Symbolized};
@@ -89,13 +89,20 @@ fn push_at(out: &mut String, page: Page<'_, '_, '_, '_>, marks: &[bool], index: 
     let symbols = symbols_text(page.symbols, index);
     match page.crash.modules.loaded.get(index) {
         Some(module) if is_asked || is_named => push_row(out, &[
-            Words("    "), Hex(module.base), End(is_asked, module.end), Words(" "),
+            Words("    "), Hex(module.base), HexIf("-", end_if(is_asked, module.end)), Words(" "),
             Words(module.path.as_str()), Version(&module.version),
             Key(", debug ", module.debug_file.as_ref(), &module.debug_id),
             Key(", code ", Some(&module.file), &module.code_id), Words(symbols),
         ]),
         _ => Ok(()),
     }
+}
+
+// Returns the address after a module, if it is asked for.
+fn end_if(is_asked: bool, end: Option<u64>) -> Option<u64>
+    ensures { result ≡ end_if is_asked end }
+{
+    if is_asked { end } else { None }
 }
 
 // Returns the words for why the module of an index has no symbols, if they were looked for.

@@ -1,7 +1,7 @@
 //! The parts of a row, which write themselves.
 ghost use Rattle.std.specs.Prelude.{◌≡◌, ◌++◌, [], ◌∷◌, IfOk, OnOk, Some, map, string_bytes};
 ghost use Rattle.std.specs.List.{concat, flat_map};
-ghost use Rattle.std.specs.Option.{option_map};
+ghost use Rattle.std.specs.Option.{option_copied, option_map};
 ghost use Rattle.minidump_bytes.specs.LinuxOsStr.{text_of};
 ghost use Rattle.minidump.specs.Below.Bytes.Piece.{piece_text};
 ghost use Rattle.minidump.specs.Below.Format.Guid.{guid_text};
@@ -19,7 +19,7 @@ ghost use Rattle.crash_text.specs.Point.{code_at, flag_words, names_after};
 ghost use Rattle.crash_text.specs.Records.{access_words, parameters_words, process_words, record_text};
 ghost use Rattle.crash_text.specs.Records.{sender_words};
 ghost use Rattle.crash_text.specs.Registers.{register_words, short_if};
-ghost use Rattle.crash_text.specs.System.{date_after, system_name};
+ghost use Rattle.crash_text.specs.System.{system_name};
 ghost use Rattle.crash_text.specs.Words.{hex_unless, id_if, lossy_if, or_empty, place_text};
 ghost use Rattle.crash_text.specs.Words.{text_after, text_if, words_if};
 
@@ -28,12 +28,12 @@ use crash::{
     Access, AddressMemory, CrashException, CrashModule, RegionState, Sender, ShortContext,
 };
 use crash_symbols::SourceLine;
+use minidump::Error;
 use minidump::format::{GUID, MINIDUMP_STREAM_TYPE};
 use minidump::own_streams::text_before_nul;
 use minidump::system_info::{Cpu, Os};
 use minidump::text::Piece::{Decimal, Hex, Left, Wide, WideDigits, Words};
 use minidump::text::{Piece, push_pieces};
-use minidump::{Error, date_text};
 use minidump_bytes::LinuxOsStr;
 use std::alloc::{AllocError, Global};
 
@@ -59,12 +59,8 @@ pub(crate) enum Part<'a> {
     HexUnless(u64, &'a str, Option<u64>),
     // a number in hexadecimal, or words if there is none
     HexOr(Option<u64>, &'a str),
-    // the address after something, if that is asked for and known
-    End(bool, Option<u64>),
-    // the id of a process or a thread, in decimal and in hexadecimal
-    Id(u32),
-    // the same after words, if it is known
-    IdIf(&'a str, Option<u32>),
+    // the id of a process or a thread after words, in decimal and in hexadecimal, if it is known
+    Id(&'a str, Option<u32>),
     // a text between words, if there is one
     Text(&'a str, &'a Option<String>, &'a str),
     // a text after words, unless it is absent or empty
@@ -81,8 +77,6 @@ pub(crate) enum Part<'a> {
     Os(Os),
     // the name of a processor
     Cpu(Cpu),
-    // a time stamp as a date after words, unless it is 0
-    Date(&'a str, u32),
     // the name of the stream of a type, or its number if it has none
     Stream(u32),
     // the name of an error, if there is one
@@ -119,7 +113,7 @@ impl Part<'_> {
     {
         match *self {
             Part::Words(words) => out.push_str(words),
-            Part::If(true, words) => out.push_str(words),
+            Part::If(is_so, words) => out.push_str(words_if(is_so, words)),
             Part::Decimal(n) => push_number(out, Piece::Decimal(n)),
             Part::DecimalIf(before, Some(n), after) =>
                 push_between(out, before, Piece::Decimal(n), after),
@@ -128,47 +122,36 @@ impl Part<'_> {
                 push_between(out, before, Piece::Decimal(n as u64), after),
             Part::Hex(n) => push_number(out, Piece::Hex(n)),
             Part::HexIf(words, Some(n)) => push_between(out, words, Piece::Hex(n), ""),
-            Part::HexUnless(known, words, Some(n)) => push_unless(out, known, words, n),
+            Part::HexUnless(known, words, n) => push_unless(out, known, words, n),
             Part::HexOr(Some(n), _) => push_number(out, Piece::Hex(n)),
             Part::HexOr(None, words) => out.push_str(words),
-            Part::End(true, Some(end)) => push_between(out, "-", Piece::Hex(end), ""),
-            Part::Id(id) => push_id(out, "", id),
-            Part::IdIf(words, Some(id)) => push_id(out, words, id),
+            Part::Id(words, Some(id)) => push_id(out, words, id),
             Part::Text(before, text, after) => push_text(out, before, text, after),
             Part::TextAfter(words, text) => push_after(out, words, or_empty(text)),
             Part::Said(words, Some(text)) => push_between(out, words, Piece::Words(text), ""),
             Part::Units(words, units) => push_units(out, words, units),
-            Part::Lossy(words, Some(text)) => push_lossy(out, words, text),
+            Part::Lossy(words, text) => push_lossy(out, words, text),
             Part::Guid(guid) => push_guid(out, guid),
             Part::Os(os) => push_os(out, os),
             Part::Cpu(cpu) => push_cpu(out, cpu),
-            Part::Date(words, stamp) => push_date(out, words, stamp),
             Part::Stream(number) => push_stream(out, number),
             Part::Failed(Some(error)) => push_between(out, ": ", Piece::Words(error.name()), ""),
             Part::Version(version) => push_version(out, version),
-            Part::Key(words, Some(file), id) => push_key(out, words, file.as_str(), id),
+            Part::Key(words, file, id) => push_key(out, words, file, id),
             Part::Place(modules, nowhere, place) => push_place(out, modules, nowhere, place),
             Part::Memory(memory) => push_memory(out, memory),
             Part::Record(exception) => push_record(out, exception),
-            Part::Source(Some(source)) => push_source(out, source),
-            Part::Short(words, Some(short)) => push_short(out, words, short),
+            Part::Source(source) => push_source(out, source),
+            Part::Short(words, short) => push_short(out, words, short),
             Part::Flags(flags) => push_flags(out, flags),
             Part::Names(words, names) => push_names(out, words, names),
             Part::Registers(size, registers) => push_registers(out, size, registers),
             Part::Code(address, code) => push_code(out, address, code),
-            Part::If(false, _)
-            | Part::DecimalIf(_, None, _)
+            Part::DecimalIf(_, None, _)
             | Part::HexIf(_, None)
-            | Part::HexUnless(_, _, None)
-            | Part::End(false, _)
-            | Part::End(true, None)
-            | Part::IdIf(_, None)
+            | Part::Id(_, None)
             | Part::Said(_, None)
-            | Part::Lossy(_, None)
-            | Part::Failed(None)
-            | Part::Key(_, None, _)
-            | Part::Source(None)
-            | Part::Short(_, None) => Ok(()),
+            | Part::Failed(None) => Ok(()),
         }
     }
 }
@@ -202,15 +185,14 @@ fn push_between(out: &mut String, before: &str, piece: Piece<'_>, after: &str) -
     push_pieces(out, &[Words(before), piece, Words(after)])
 }
 
-// Appends a number in hexadecimal after words, unless it is this one.
-fn push_unless(out: &mut String, known: u64, words: &str, n: u64) -> Added
+// Appends a number in hexadecimal after words, if there is one, unless it is this one.
+fn push_unless(out: &mut String, known: u64, words: &str, n: Option<u64>) -> Added
     ensures { OnOk result
-        (string_bytes out.new ≡ string_bytes out.old ++ hex_unless known words.now (Some n)) }
+        (string_bytes out.new ≡ string_bytes out.old ++ hex_unless known words.now n) }
 {
-    if n == known {
-        Ok(())
-    } else {
-        push_between(out, words, Piece::Hex(n), "")
+    match n {
+        Some(n) if n != known => push_between(out, words, Piece::Hex(n), ""),
+        _ => Ok(()),
     }
 }
 
@@ -225,16 +207,19 @@ fn push_id(out: &mut String, words: &str, id: u32) -> Added
     ])
 }
 
-// Appends how much there is of a context that is cut, after words.
+// Appends how much there is of a context after words, if it is cut.
 #[rattlefmt::skip]
-fn push_short(out: &mut String, words: &str, short: ShortContext) -> Added
+fn push_short(out: &mut String, words: &str, short: Option<ShortContext>) -> Added
     ensures { OnOk result
-        (string_bytes out.new ≡ string_bytes out.old ++ short_if words.now (Some short)) }
+        (string_bytes out.new ≡ string_bytes out.old ++ short_if words.now short) }
 {
-    push_pieces(out, &[
-        Words(words), Words("context of "), Decimal(short.size as u64), Words(" of "),
-        Decimal(short.whole as u64), Words(" bytes"),
-    ])
+    match short {
+        Some(short) => push_pieces(out, &[
+            Words(words), Words("context of "), Decimal(short.size as u64), Words(" of "),
+            Decimal(short.whole as u64), Words(" bytes"),
+        ]),
+        None => Ok(()),
+    }
 }
 
 // ---- texts
@@ -282,13 +267,18 @@ fn push_units(out: &mut String, words: &str, units: &[u16]) -> Added
     }
 }
 
-// Appends a text of Linux after words.
-fn push_lossy(out: &mut String, words: &str, text: LinuxOsStr<'_>) -> Added
+// Appends a text of Linux after words, if there is one.
+fn push_lossy(out: &mut String, words: &str, text: Option<LinuxOsStr<'_>>) -> Added
     ensures { OnOk result (string_bytes out.new
-        ≡ string_bytes out.old ++ lossy_if words.now (Some (text_of text.entry))) }
+        ≡ string_bytes out.old ++ lossy_if words.now (option_map text_of text.entry)) }
 {
-    let text = text.to_string_lossy(*out.allocator())?;
-    push_between(out, words, Words(text.as_str()), "")
+    match text {
+        Some(text) => {
+            let text = text.to_string_lossy(*out.allocator())?;
+            push_between(out, words, Words(text.as_str()), "")
+        }
+        None => Ok(()),
+    }
 }
 
 // Appends an identifier.
@@ -320,20 +310,6 @@ fn push_cpu(out: &mut String, cpu: Cpu) -> Added
     out.push_str(name.as_str())
 }
 
-// Appends a time stamp as a date after words, unless it is 0.
-fn push_date(out: &mut String, words: &str, stamp: u32) -> Added
-    ensures { OnOk result
-        (string_bytes out.new ≡ string_bytes out.old ++ date_after words.now stamp) }
-{
-    if stamp == 0 {
-        return Ok(());
-    }
-    match date_text(*out.allocator(), stamp) {
-        Ok(date) => push_pieces(out, &[Words(words), Words(date.as_str())]),
-        Err(_) => Err(AllocError),
-    }
-}
-
 // Appends the name of the stream of a type, or its number if it has none.
 fn push_stream(out: &mut String, number: u32) -> Added
     ensures { OnOk result (string_bytes out.new ≡ string_bytes out.old ++ stream_text number) }
@@ -359,22 +335,22 @@ fn push_version(out: &mut String, version: &Option<String>) -> Added
     }
 }
 
-// Appends words, the name of a file and an identifier, if there is an identifier.
+// Appends the name of a file and an identifier after words, if there are both.
 #[rattlefmt::skip]
 fn push_key<'x>(
     out: &mut String,
     words: &'x str,
-    file: &'x str,
+    file: Option<&'x String>,
     id: &'x Option<String>,
 ) -> Added
-    ensures { OnOk result (string_bytes out.new ≡ string_bytes out.old
-        ++ key_text words.now (Some file.now) (option_map string_bytes id.now)) }
+    ensures { OnOk result (string_bytes out.new ≡ string_bytes out.old ++ key_text words.now
+        (option_map string_bytes (option_copied file.entry)) (option_map string_bytes id.now)) }
 {
-    match id {
-        Some(id) => push_pieces(out, &[
-            Words(words), Words(file), Words("/"), Words(id.as_str()),
+    match (file, id) {
+        (Some(file), Some(id)) => push_pieces(out, &[
+            Words(words), Words(file.as_str()), Words("/"), Words(id.as_str()),
         ]),
-        None => Ok(()),
+        _ => Ok(()),
     }
 }
 
@@ -426,7 +402,7 @@ fn right_letter(letter: &'static str, is_there: bool) -> &'static str
 }
 
 // Returns words if something is so, or else none.
-fn words_if(is_so: bool, words: &'static str) -> &'static str
+fn words_if(is_so: bool, words: &str) -> &str
     ensures { result.now ≡ words_if is_so words.now }
 {
     if is_so { words } else { "" }
@@ -434,18 +410,18 @@ fn words_if(is_so: bool, words: &'static str) -> &'static str
 
 // Appends a source line, if its file is known.
 #[rattlefmt::skip]
-fn push_source(out: &mut String, source: SourceLine<'_>) -> Added
+fn push_source(out: &mut String, source: Option<SourceLine<'_>>) -> Added
     ensures { OnOk result (string_bytes out.new
-        ≡ string_bytes out.old ++ source_text (Some (source_of source.entry))) }
+        ≡ string_bytes out.old ++ source_text (option_map source_of source.entry)) }
 {
-    match source.file {
-        Some(file) => {
+    match source {
+        Some(SourceLine { file: Some(file), line }) => {
             let file = file.to_string_lossy(*out.allocator())?;
             push_pieces(out, &[
-                Words(" at "), Words(file.as_str()), Words(":"), Decimal(source.line as u64),
+                Words(" at "), Words(file.as_str()), Words(":"), Decimal(line as u64),
             ])
         }
-        None => Ok(()),
+        _ => Ok(()),
     }
 }
 
@@ -520,8 +496,8 @@ fn push_record(out: &mut String, exception: &CrashException) -> Added
         Some(_) => (0, none),
         None => (exception.flags as u64, exception.parameters.as_slice()),
     };
-    push_unless(out, 0, ", flags ", flags)?;
-    push_unless(out, 0, ", nested record at ", exception.nested)?;
+    push_unless(out, 0, ", flags ", Some(flags))?;
+    push_unless(out, 0, ", nested record at ", Some(exception.nested))?;
     out.push_str(access_words(exception.access))?;
     push_sender(out, exception.sender)?;
     push_parameters(out, parameters)

@@ -19,7 +19,7 @@ ghost use Rattle.crash_text.specs.Registers.{register_row, registers_lines, rows
 
 use crate::lines::{Added, push_row, push_table, push_text_line};
 use crate::parts::Part::{
-    Code, Count, Flags, Hex, HexIf, IdIf, If, Memory, Names, Place, Registers, Said, Short, Words,
+    Code, Count, Flags, Hex, HexIf, Id, If, Memory, Names, Place, Registers, Said, Short, Words,
 };
 use crash::{
     AddressFacts, ContextOrigin, ContextProblem, Crash, CrashContext, CrashException, CrashModule,
@@ -49,7 +49,7 @@ pub(crate) fn push_address_line<'t>(
         Words(indent), Words(name), Words(" "), Hex(facts.address),
         Place(modules, nowhere, facts.module), HexIf(", null + ", facts.null_offset),
         If(!facts.is_canonical, ", not canonical"), Said(", in unloaded ", unloaded),
-        IdIf(", in the stack of thread ", inside), IdIf(", below the stack of thread ", below),
+        Id(", in the stack of thread ", inside), Id(", below the stack of thread ", below),
         Memory(facts.memory),
     ])
 }

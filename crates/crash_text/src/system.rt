@@ -11,12 +11,12 @@ ghost use Rattle.crash_text.specs.System.{process_lines, release_line, system_li
 ghost use Rattle.crash_text.specs.Words.{missing_lines};
 
 use crate::lines::{Added, push_if_missing, push_row, push_table};
-use crate::parts::Part::{Cpu, Date, Decimal, DecimalIf, IdIf, Os, Text, TextAfter, Words};
+use crate::parts::Part::{Cpu, Decimal, DecimalIf, Id, Os, Text, TextAfter, Words};
 use crash::{Crash, CrashProcess, CrashSystem, LsbRelease};
-use minidump::{Error, MinidumpBreakpadInfo, MinidumpMacBootargs, MinidumpSystemInfo};
+use minidump::{Error, MinidumpBreakpadInfo, MinidumpMacBootargs, MinidumpSystemInfo, date_text};
+use std::alloc::AllocError;
 
 // Appends the lines of the system, of the date of the dump, and of the process.
-#[tactic(auto, unfolding(crate::specs::System::date_lines))]
 pub(crate) fn push_head(out: &mut String, crash: &Crash<'_>) -> Added
     ensures { Adds out.old out.new (head_lines (crash_of crash.now)) result }
 {
@@ -24,7 +24,7 @@ pub(crate) fn push_head(out: &mut String, crash: &Crash<'_>) -> Added
     push_missing_system(out, &crash.contents.system.system)?;
     push_release(out, &crash.process.release)?;
     push_boot(out, &crash.contents.messages.mac_boot_args)?;
-    push_table(out, &[&[Date("dumped  ", crash.directory.written)]])?;
+    push_date(out, crash.directory.written)?;
     push_breakpad(out, &crash.contents.system.breakpad)?;
     push_process(out, &crash.process)
 }
@@ -89,6 +89,20 @@ fn push_boot(out: &mut String, arguments: &Result<MinidumpMacBootargs, Error>) -
     }
 }
 
+// Appends the date of the dump, unless its time stamp is 0.
+#[tactic(auto, unfolding(crate::specs::System::date_lines))]
+fn push_date(out: &mut String, stamp: u32) -> Added
+    ensures { Adds out.old out.new (date_lines stamp) result }
+{
+    if stamp == 0 {
+        return Ok(());
+    }
+    match date_text(*out.allocator(), stamp) {
+        Ok(date) => push_row(out, &[Words("dumped  "), Words(date.as_str())]),
+        Err(_) => Err(AllocError),
+    }
+}
+
 // Appends the threads that requested and wrote the dump, if Breakpad's information has them.
 #[rattlefmt::skip]
 #[tactic(auto, unfolding(crate::specs::System::breakpad_lines))]
@@ -98,8 +112,8 @@ fn push_breakpad(out: &mut String, info: &Result<MinidumpBreakpadInfo, Error>) -
 {
     match info {
         Ok(info) => push_table(out, &[
-            &[IdIf("dump requested by thread ", info.requesting_thread_id)],
-            &[IdIf("dump written by thread ", info.dump_thread_id)],
+            &[Id("dump requested by thread ", info.requesting_thread_id)],
+            &[Id("dump written by thread ", info.dump_thread_id)],
         ]),
         Err(_) => Ok(()),
     }
@@ -112,8 +126,8 @@ fn push_process(out: &mut String, process: &CrashProcess) -> Added
     ensures { Adds out.old out.new (process_lines (process_of process.now)) result }
 {
     push_table(out, &[
-        &[IdIf("process ", process.id)],
-        &[IdIf("parent  ", process.parent)],
+        &[Id("process ", process.id)],
+        &[Id("parent  ", process.parent)],
         &[DecimalIf("uptime  ", process.uptime, " s")],
         &[DecimalIf("resident ", process.resident, " bytes")],
         &[Text("command ", &process.command_line, "")],

@@ -11,7 +11,7 @@ ghost use Rattle.crash_text.specs.Threads.{stack_lines, thread_lines};
 
 use crate::frames::{printed_frames, push_walk};
 use crate::limits::TextLimits;
-use crate::lines::{Added, push_if_missing, push_row, push_table};
+use crate::lines::{Added, push_if_missing, push_row, push_table, push_text_line};
 use crate::page::Page;
 use crate::parts::Part::{Hex, Id, If, Short, Text, Words};
 use crash::{ContextProblem, CrashFrame, CrashSystem, CrashThread, StackRange};
@@ -101,7 +101,7 @@ fn push_thread(
         }
         None => {
             let why = no_walk_row(&page.crash.process.system, thread.context_problem);
-            push_row(out, &[Words(why)])
+            push_text_line(out, why)
         }
     }
 }
@@ -115,7 +115,7 @@ fn push_heading(out: &mut String, thread: &CrashThread) -> Added
 {
     push_table(out, &[
         &[
-            Words("thread "), Id(thread.id), Text(" \"", &thread.name, "\""),
+            Id("thread ", Some(thread.id)), Text(" \"", &thread.name, "\""),
             If(!thread.is_listed, ", not in the list of threads"),
         ],
         &[Text("    last error ", &thread.last_error, "")],
@@ -169,10 +169,10 @@ fn push_own(out: &mut String, problem: Option<ContextProblem>) -> Added
 {
     match problem {
         Some(ContextProblem::Outside) => {
-            push_row(out, &[Words("    its own context is outside the file")])
+            push_text_line(out, "    its own context is outside the file")
         }
         Some(ContextProblem::NotAccepted { .. }) => {
-            push_row(out, &[Words("    its own context can't be read")])
+            push_text_line(out, "    its own context can't be read")
         }
         Some(ContextProblem::NoSystem) | None => Ok(()),
     }
