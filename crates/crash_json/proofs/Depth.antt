@@ -8,7 +8,6 @@ use Rattle.json.specs.Token.{Token}
 use Rattle.json.specs.Tree.{depth, members_depth}
 use Rattle.json.proofs.Nesting.{value-depth}
 use Rattle.minidump.specs.declared.Error.{Error}
-use Rattle.minidump.specs.Below.Records.Annotations.{Annotation}
 use Rattle.minidump.specs.Below.Records.Crashpad.{Crashpad}
 use Rattle.minidump.specs.Below.Records.CrashpadText.{annotation_text}
 use Rattle.minidump.specs.Below.Records.Pairs.{pairs_of}
@@ -26,17 +25,15 @@ use Rattle.crash_json.specs.Tree.{count, hex_string, members_of}
 use Rattle.crash_json.proofs.TreeDepth.{all_within, array_within, both_within, flat, numbered_array_within, or_null_within}
 use Rattle.crash_json.specs.declared.JsonLimits.{JsonLimits}
 use Rattle.crash_json.specs.Cause.{address_json, address_members, crash_info_json, exception_json, memory_json, read_json, sender_json, unread_json}
-use Rattle.crash_json.specs.Crashpad.{annotation_json, annotations_json, crashpad_json, crashpad_module_json, objects_json}
+use Rattle.crash_json.specs.Crashpad.{crashpad_json, crashpad_module_json, dictionary_json, entry_json}
 use Rattle.crash_json.specs.Frames.{frame_json, frame_members, inline_json, name_members, register_members, registers_json}
-use Rattle.crash_json.specs.Linux.{environment_json, limit_json, limits_json, variable_json}
 use Rattle.crash_json.specs.Minidump.{damage_json, damage_object, file_members, minidump_json, process_members, region_json, signature_members, stream_json}
 use Rattle.crash_json.specs.Modules.{module_json, module_members, modules_json, unloaded_json, unreadable_json}
 use Rattle.crash_json.specs.Point.{point_json, register_json, word_json}
-use Rattle.crash_json.specs.Records.{assertion_json, boot_args_json, handle_json, handles_json, kind_json, mac_crash_json, mac_record_json}
+use Rattle.crash_json.specs.Records.{assertion_json, boot_args_json, handle_json, handles_json, kind_json, mac_crash_json, mac_record_json, soft_depth, soft_json}
 use Rattle.crash_json.specs.ReportValue.{ReportValue}
 use Rattle.crash_json.specs.Report.{crash_members, error_json, json_of, pid_members, record_members, stream_members, system_members}
-use Rattle.crash_json.specs.SoftErrors.{soft_depth, soft_json}
-use Rattle.crash_json.specs.System.{release_json, system_json}
+use Rattle.crash_json.specs.System.{environment_json, limit_json, limits_json, release_json, system_json, variable_json}
 use Rattle.crash_json.specs.Threads.{crashing_json, index_members, range_json, short_json, thread_json, thread_members, threads_json}
 
 -- ---- modules and threads
@@ -81,25 +78,28 @@ crashing_depth r = or_null_within (λ p. thread_json r true p.0 p.1) 5 (λ p. th
 
 -- ---- Crashpad's information, and the environment
 
-annotations_depth : (es : List (List ℕ × List ℕ)) → depth (annotations_json es) ≤ 2
-unfolding annotation_json
-annotations_depth es = array_within annotation_json 1 (λ e. omega arith) es
-
-objects_depth : (es : List (List ℕ × Annotation)) → depth (objects_json es) ≤ 2
-unfolding annotation_json
-objects_depth es = array_within (λ e. annotation_json (e.0, annotation_text e.1)) 1 (λ e. omega arith) es
+dictionary_depth : {V : Type 0} (json : V → Json) → ((v : V) → depth (json v) ≤ 0) → (es : List (List ℕ × V)) → depth (dictionary_json json es) ≤ 2
+unfolding entry_json
+dictionary_depth json each es = array_within (λ e. entry_json e.0 (json e.1)) 1 (λ e. omega (arith, each e.1)) es
 
 crashpad_depth : (c : Crashpad) → depth (crashpad_json c) ≤ 5
 unfolding crashpad_json crashpad_module_json
 crashpad_depth c =
+    let texts = dictionary_depth string (λ t. omega arith) in
     omega (
       arith,
-      annotations_depth,
-      array_within crashpad_module_json 3 (λ m. omega (arith, array_within string 0 (λ t. omega arith), annotations_depth, objects_depth)),
+      texts,
+      array_within crashpad_module_json 3
+          (λ m. omega (
+            arith,
+            array_within string 0 (λ t. omega arith),
+            texts,
+            dictionary_depth (λ a. string (annotation_text a)) (λ a. omega arith),
+          )),
     )
 
 environment_depth : (is_asked : Bool) (text : Result (List ℕ) Error) → depth (environment_json is_asked text) ≤ 2
-unfolding annotation_json
+unfolding entry_json
 environment_depth true (Ok text) = array_within variable_json 1 (λ p. omega arith) (pairs_of 0x3d text)
 environment_depth true (Err e) = omega arith
 environment_depth false text = omega arith

@@ -2,5 +2,4 @@
 pub mod Depth
 pub mod Tokens
 pub mod TreeDepth
-pub mod PointLemmas
 pub mod SignatureLemmas

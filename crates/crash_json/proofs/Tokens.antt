@@ -2,10 +2,11 @@
 use Rattle.std.specs.List.{enumerate_from, flat_map}
 use Rattle.std.specs.Option.{option_map}
 use Rattle.std.specs.Result.{result_ok}
+use Rattle.std.proofs.lemmas.Grind.{flat_map-append}
 use Rattle.std.proofs.lemmas.List.{drop_all, length-map}
 use Rattle.std.proofs.lemmas.Simd.{map-map}
 use Rattle.std.proofs.Common.{◌<◌, ◌+◌, suc, length, get_or, drop, add-one, drop-cons, ◌≡◌, ◌∙◌, ◌≤◌, ℕ, List, [], ◌∷◌, ◌++◌, Option, Some, None, Result, Ok}
-use Rattle.std.proofs.Common.{Err, map, option_and_then, refl, ap, sym, append_assoc, append-nil}
+use Rattle.std.proofs.Common.{Err, Bool, arith, filter, map, option_and_then, refl, ap, sym, append_assoc, append-nil}
 use Rattle.json.specs.Token.{Token, begin_object, end_object, begin_array, end_array}
 use Rattle.json.specs.Json.{Json, array, document, if_last, max_depth, value}
 use Rattle.json.specs.Lex.{tokens}
@@ -13,7 +14,7 @@ use Rattle.json.proofs.Printed.Trees.{value-json_tokens}
 use Rattle.json.specs.Tree.{json_tokens, members_tokens, items_tokens, depth}
 use Rattle.minidump.specs.declared.Error.{Error}
 use Rattle.minidump.specs.Below.Contexts.Context.{map_ok}
-use Rattle.crash_json.specs.Tree.{array_of, items_of, member_list_tokens, members_of, numbered_array_of, object_of, or_null}
+use Rattle.crash_json.specs.Tree.{array_of, items_of, member_list_tokens, member_tokens, members_of, numbered_array_of, object_of, or_null}
 
 members_of_list : (ms : List (List ℕ × Json)) → members_tokens (members_of ms) ≡ member_list_tokens ms ++ (end_object ∷ [])
 unfolding member_list_tokens
@@ -31,12 +32,6 @@ object_of_members old ms =
     ∙ append_assoc old (begin_object ∷ []) (member_list_tokens ms ++ (end_object ∷ []))
     ∙ ap (λ ts. old ++ (begin_object ∷ ts)) (sym (members_of_list ms))
 
-split : (a b : List (List ℕ × Json)) → member_list_tokens (a ++ b) ≡ member_list_tokens a ++ member_list_tokens b
-unfolding member_list_tokens
-split [] b = refl
-split (m ∷ a) b = ap (λ ts. Token.key m.0 ∷ (json_tokens m.1 ++ ts)) (split a b)
-    ∙ ap (λ ts. Token.key m.0 ∷ ts) (sym (append_assoc (json_tokens m.1) (member_list_tokens a) (member_list_tokens b)))
-
 -- members in brackets are an object
 pub in_object : (t u v : List Token) (ms : List (List ℕ × Json))
     → u ≡ t ++ (begin_object ∷ []) → v ≡ u ++ member_list_tokens ms → v ++ (end_object ∷ []) ≡ t ++ json_tokens (object_of ms)
@@ -52,8 +47,10 @@ named t u v name j key value =
 
 -- members after members
 pub more : (t u v : List Token) (a b : List (List ℕ × Json)) → u ≡ t ++ member_list_tokens a → v ≡ u ++ member_list_tokens b → v ≡ t ++ member_list_tokens (a ++ b)
+unfolding member_list_tokens
 more t u v a b first second =
-    second ∙ ap (λ ts. ts ++ member_list_tokens b) first ∙ append_assoc t (member_list_tokens a) (member_list_tokens b) ∙ ap (λ ts. t ++ ts) (sym (split a b))
+    second ∙ ap (λ ts. ts ++ member_list_tokens b) first ∙ append_assoc t (member_list_tokens a) (member_list_tokens b)
+    ∙ ap (λ ts. t ++ ts) (sym (flat_map-append member_tokens a b))
 
 -- the tokens of the values of items, one after another, without brackets
 abbrev pub item_tokens : {X : Type 0} → (X → Json) → List X → List Token
@@ -137,5 +134,9 @@ pub or_null_of_found : {X Y : Type 0} (json : Y → Json) (view : X → Y) (foun
 or_null_of_found json view (Ok x) = refl
 or_null_of_found json view (Err e) = refl
 
--- lists, numbered ones and absent values of items are those of what the items stand for
-pub ruleset views = (map-map, or_null_of_views, or_null_of_found, numbered_values, length-map)
+pub filter_of_map : {X V : Type 0} (keeps : V → Bool) (view : X → V) (xs : List X) → filter keeps (map view xs) ≡ map view (filter (λ x. keeps (view x)) xs)
+filter_of_map keeps view [] = refl
+filter_of_map keeps view (x ∷ xs) = grind (arith, filter_of_map keeps view xs)
+
+-- lists, numbered ones, kept items and absent values are those of what the items stand for
+pub ruleset views = (map-map, or_null_of_views, or_null_of_found, numbered_values, filter_of_map, length-map)

@@ -9,8 +9,6 @@ pub mod Threads
 pub mod Signature
 pub mod Records
 pub mod Crashpad
-pub mod Linux
 pub mod Point
 pub mod Minidump
-pub mod SoftErrors
 pub mod Report

@@ -19,11 +19,11 @@ use Rattle.crash_json.specs.Tree.{array_of, count, hex_string, object_of, or_nul
 use Rattle.crash_json.specs.Cause.{address_json, exception_json}
 use Rattle.crash_json.specs.Crashpad.{crashpad_json}
 use Rattle.crash_json.specs.ReportValue.{ReportValue}
-use Rattle.crash_json.specs.Linux.{environment_json}
 use Rattle.crash_json.specs.Modules.{unreadable_json}
 use Rattle.crash_json.specs.Point.{point_json}
 use Rattle.crash_json.specs.Records.{assertion_json, kind_json}
 use Rattle.crash_json.specs.Signature.{signature_in}
+use Rattle.crash_json.specs.System.{environment_json}
 use Rattle.crash_json.specs.Threads.{registers_of}
 
 -- ---- streams

@@ -20,15 +20,12 @@ word_json w = object_of (
 abbrev pub register_json : List ℕ × AddressFacts → Json
 register_json r = object_of ((codes "name", string r.0) ∷ address_members r.1)
 
--- the registers whose values lie in a module, an unloaded module or the stack of a thread
-abbrev pub placed_json : List (List ℕ × AddressFacts) → Json
-placed_json registers = array_of register_json (filter (λ r. is_placed r.1) registers)
-
--- where a thread stands
+-- where a thread stands, with the registers whose values lie in a module, an unloaded module or the stack
+-- of a thread
 unfoldable pub point_json : PointValue → Json
 point_json p = object_of (
     (codes "instruction", address_json p.instruction)
-    ∷ (codes "registers", placed_json p.registers)
+    ∷ (codes "registers", array_of register_json (filter (λ r. is_placed r.1) p.registers))
     ∷ (codes "code", array_of count p.code)
     ∷ (codes "words", array_of word_json p.words)
     ∷ (codes "flags", named_json p.flags)

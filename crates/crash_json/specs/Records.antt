@@ -1,7 +1,10 @@
--- Handles, what macOS keeps of a crash and of its boot, and an assertion as JSON.
+-- Handles, what macOS keeps of a crash and of its boot, Mozilla's soft errors, which are a text that
+-- ought to be JSON, and an assertion, as JSON.
 use Rattle.std.specs.Prelude.{ℕ, ◌==◌, List, [], ◌∷◌, codes, length, Option, Some, None}
-use Rattle.std.specs.Prelude.{if◌then◌else◌}
-use Rattle.json.specs.Json.{Json, string}
+use Rattle.std.specs.Prelude.{if◌then◌else◌, unwrap_or}
+use Rattle.std.specs.Option.{option_and_then}
+use Rattle.json.specs.Json.{Json, if_last, string, value}
+use Rattle.json.specs.Lex.{tokens}
 use Rattle.minidump.specs.declared.format.MINIDUMP_ASSERTION_INFO.{MINIDUMP_ASSERTION_INFO}
 use Rattle.minidump.specs.Below.Bytes.Text16.{text_before_nul}
 use Rattle.minidump.specs.Below.Records.BootArgs.{BootArgs}
@@ -57,6 +60,20 @@ mac_crash_json all = object_of (
 -- the arguments of the boot of macOS
 unfoldable pub boot_args_json : BootArgs → Json
 boot_args_json b = or_null string b.text
+
+-- ---- soft errors
+
+-- how deep the value may nest: a line may have 128 levels, and its object is one of them
+abbrev pub soft_depth : ℕ
+soft_depth = 127
+
+-- the value of a text that is JSON and nests no deeper
+abbrev pub value_in : List ℕ → Option Json
+value_in text = option_and_then (λ p. if_last p.0 p.1) (value soft_depth (tokens text))
+
+-- the soft errors: that value, or the text where it has none
+unfoldable pub soft_json : List ℕ → Json
+soft_json text = unwrap_or (value_in text) (string text)
 
 -- ---- an assertion
 

@@ -10,12 +10,10 @@ use Rattle.crash_json.specs.Tree.{array_of, count, object_of, or_null}
 use Rattle.crash_json.specs.declared.JsonLimits.{JsonLimits}
 use Rattle.crash_json.specs.Cause.{crash_info_json}
 use Rattle.crash_json.specs.ReportValue.{ReportValue}
-use Rattle.crash_json.specs.Linux.{limits_json}
 use Rattle.crash_json.specs.Minidump.{minidump_json}
 use Rattle.crash_json.specs.Modules.{main_module, modules_json, unloaded_json}
-use Rattle.crash_json.specs.Records.{boot_args_json, handles_json, mac_crash_json}
-use Rattle.crash_json.specs.SoftErrors.{soft_json}
-use Rattle.crash_json.specs.System.{release_json, system_json}
+use Rattle.crash_json.specs.Records.{boot_args_json, handles_json, mac_crash_json, soft_json}
+use Rattle.crash_json.specs.System.{limits_json, release_json, system_json}
 use Rattle.crash_json.specs.Threads.{crashing_json, threads_json}
 
 -- the path of a file, where it has one

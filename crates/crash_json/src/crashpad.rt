@@ -4,11 +4,10 @@ ghost use Rattle.json.specs.Json.{string};
 ghost use Rattle.minidump.specs.Below.Format.Guid.{guid_text};
 ghost use Rattle.minidump.specs.Below.Records.Annotations.{annotation_of};
 ghost use Rattle.minidump.specs.Below.Records.Crashpad.{module_of};
-ghost use Rattle.minidump.specs.Below.Records.Dictionary.{entries_of};
 ghost use Rattle.minidump.specs.Promise.{crashpad_info_stream};
 ghost use Rattle.minidump.specs.Below.Records.CrashpadText.{annotation_text};
-ghost use Rattle.crash_json.specs.Crashpad.{annotation_json, annotations_json, crashpad_json};
-ghost use Rattle.crash_json.specs.Crashpad.{crashpad_module_json, objects_json};
+ghost use Rattle.crash_json.specs.Tree.{array_of};
+ghost use Rattle.crash_json.specs.Crashpad.{crashpad_json, crashpad_module_json, entry_json};
 
 use crate::tree::{Members, Put, ToJson, members};
 use crash::annotation_text;
@@ -26,7 +25,7 @@ impl ToJson for MinidumpCrashpadInfo {
         members! {
             "report_id": self.raw.report_id,
             "client_id": self.raw.client_id,
-            "annotations": Texts(&self.simple_annotations),
+            "annotations": &self.simple_annotations,
             "modules": &self.module_list,
         }
         .put_object(out, alloc)
@@ -51,8 +50,8 @@ impl ToJson for MinidumpModuleCrashpadInfo {
         members! {
             "module_index": self.module_index,
             "list": &self.list_annotations,
-            "annotations": Texts(&self.simple_annotations),
-            "objects": Objects(&self.annotation_objects),
+            "annotations": &self.simple_annotations,
+            "objects": &self.annotation_objects,
         }
         .put_object(out, alloc)
     }
@@ -60,73 +59,42 @@ impl ToJson for MinidumpModuleCrashpadInfo {
 
 // ---- annotations
 
-// The annotations of a dictionary.
-#[derive(Clone, Copy)]
-struct Texts<'l>(&'l BTreeMap<String, String>);
+// A text as it is, and the kind of any other annotation.
+impl ToJson for MinidumpAnnotation {
+    ghost json = { λ a. string (annotation_text (annotation_of a)) };
 
-impl ToJson for Texts<'_> {
-    ghost json = { λ t. annotations_json (entries_of string_bytes t.0.now.entries) };
+    fn put(&self, out: &mut Writer, _alloc: Global) -> Put {
+        out.string(annotation_text(self))
+    }
+}
+
+// The entries of a dictionary.
+impl<V: ToJson> ToJson for BTreeMap<String, V> {
+    ghost json = { λ d. array_of (λ e. entry_json (string_bytes e.0) (V.json e.1)) d.entries };
 
     #[tactic(auto, using(crate::proofs::Tokens::views))]
     fn put(&self, out: &mut Writer, alloc: Global) -> Put {
-        let entries = texts_of(alloc, self.0)?;
+        let entries = entries_of(alloc, self)?;
         entries.put(out, alloc)
     }
 }
 
 // Returns the entries of a dictionary.
-fn texts_of<'l>(
+fn entries_of<'l, V>(
     alloc: Global,
-    texts: &'l BTreeMap<String, String>,
-) -> Result<Vec<(&'l String, &'l String)>, AllocError>
+    dictionary: &'l BTreeMap<String, V>,
+) -> Result<Vec<(&'l String, &'l V)>, AllocError>
     ensures { IfOk result
-        (λ entries. map (λ e. (string_bytes e.0.now, string_bytes e.1.now)) entries.items
-        ≡ entries_of string_bytes texts.now.entries) }
+        (λ entries. map (λ e. (e.0.now, e.1.now)) entries.items ≡ dictionary.now.entries) }
 {
-    texts.iter().collect(alloc)
+    dictionary.iter().collect(alloc)
 }
 
-impl<'l> ToJson for (&'l String, &'l String) {
-    ghost json = { λ e. annotation_json (string_bytes e.0.now, string_bytes e.1.now) };
+impl<'l, V: ToJson> ToJson for (&'l String, &'l V) {
+    ghost json = { λ e. entry_json (string_bytes e.0.now) (V.json e.1.now) };
 
-    #[tactic(auto, unfolding(crate::specs::Crashpad::annotation_json))]
+    #[tactic(auto, unfolding(crate::specs::Crashpad::entry_json))]
     fn put(&self, out: &mut Writer, alloc: Global) -> Put {
         members! { "name": self.0, "value": self.1, }.put_object(out, alloc)
-    }
-}
-
-// The annotations that have a type, with their names.
-#[derive(Clone, Copy)]
-struct Objects<'l>(&'l BTreeMap<String, MinidumpAnnotation>);
-
-impl ToJson for Objects<'_> {
-    ghost json = { λ o. objects_json (entries_of annotation_of o.0.now.entries) };
-
-    #[tactic(auto, using(crate::proofs::Tokens::views))]
-    fn put(&self, out: &mut Writer, alloc: Global) -> Put {
-        let entries = objects_of(alloc, self.0)?;
-        entries.put(out, alloc)
-    }
-}
-
-// Returns the annotations that have a type, with their names.
-fn objects_of<'l>(
-    alloc: Global,
-    objects: &'l BTreeMap<String, MinidumpAnnotation>,
-) -> Result<Vec<(&'l String, &'l MinidumpAnnotation)>, AllocError>
-    ensures { IfOk result
-        (λ entries. map (λ e. (string_bytes e.0.now, annotation_of e.1.now)) entries.items
-        ≡ entries_of annotation_of objects.now.entries) }
-{
-    objects.iter().collect(alloc)
-}
-
-impl<'l> ToJson for (&'l String, &'l MinidumpAnnotation) {
-    ghost json = { λ e. annotation_json
-        (string_bytes e.0.now, annotation_text (annotation_of e.1.now)) };
-
-    #[tactic(auto, unfolding(crate::specs::Crashpad::annotation_json))]
-    fn put(&self, out: &mut Writer, alloc: Global) -> Put {
-        members! { "name": self.0, "value": annotation_text(self.1), }.put_object(out, alloc)
     }
 }

@@ -15,9 +15,9 @@ ghost use Rattle.crash_json.specs.Minidump.{breakpad_members, damage_json, damag
 ghost use Rattle.crash_json.specs.Minidump.{file_members, minidump_json, process_members, region_json};
 ghost use Rattle.crash_json.specs.Minidump.{signature_members, stream_json, unless_zero};
 
-use crate::linux::Environment;
 use crate::report::Report;
 use crate::signature::signature_in;
+use crate::system::Environment;
 use crate::threads::registers_of;
 use crate::tree::{Decimal, Found, Members, Optional, Put, Text, ToJson, members};
 use crash::{Crash, Damage, StreamEntry, regions_of};

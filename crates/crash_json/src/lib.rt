@@ -34,32 +34,28 @@ ghost use Rattle.minidump.specs.Below.Contexts.Context.{map_ok};
 ghost use Rattle.minidump.specs.Below.Format.Answer.{Gives};
 ghost use Rattle.crash.specs.Crash.{crash_in, crash_of};
 ghost use Rattle.crash_symbols.specs.Shown.{symbolized_of};
-ghost use Rattle.crash_json.specs.Report.{json_of, text_of};
+ghost use Rattle.crash_json.specs.Report.{error_json, error_text, json_of, text_of};
 
 mod cause;
 mod crashpad;
 mod dump;
-mod error_line;
 mod frames;
-mod linux;
 mod modules;
 mod point;
 mod records;
 mod report;
 mod signature;
-mod soft_errors;
 mod system;
 mod threads;
 mod tree;
 
 use crash::Crash;
 use crash_symbols::Symbolized;
-pub use error_line::error_json;
 use json::Writer;
 use minidump::{CodeNames, Error};
 use report::Report;
 use std::alloc::{AllocError, Global};
-use tree::ToJson;
+use tree::{Members, ToJson, members};
 
 /// How much of a crash is written.
 #[derive(Clone, Copy, PartialEq, Eq)]
@@ -123,5 +119,20 @@ pub fn json_of<'l>(
     };
     let mut out = Writer::new(Vec::new(alloc));
     report.put(&mut out, alloc)?;
+    Ok(out.into_inner())
+}
+
+/// Makes the line of a file that is no minidump: its path, and a word for why.
+///
+/// Returns `AllocError` if an allocation fails.
+#[tactic(auto, unfolding(crate::specs::Report::error_json))]
+pub fn error_json(alloc: Global, path: &str, status: &str) -> Result<Vec<u8>, AllocError>
+    ensures text { IfOk result
+        (λ text. document text.items ≡ Some (error_json path.now status.now)) }
+    ensures compact { IfOk result (λ text. text.items ≡ error_text path.now status.now) }
+    ensures utf8 { IfOk result (λ text. IsUtf8 text.items) }
+{
+    let mut out = Writer::new(Vec::new(alloc));
+    members! { "path": path, "status": status, }.put_object(&mut out, alloc)?;
     Ok(out.into_inner())
 }

@@ -3,7 +3,7 @@ ghost use Rattle.std.specs.Prelude.{◌≡◌, IfOk, filter, map};
 ghost use Rattle.crash.specs.Addresses.{is_placed};
 ghost use Rattle.crash.specs.Point.{point_of};
 ghost use Rattle.crash_json.specs.Frames.{named_json, register_members};
-ghost use Rattle.crash_json.specs.Point.{placed_json, point_json, register_json, word_json};
+ghost use Rattle.crash_json.specs.Point.{point_json, register_json, word_json};
 
 use crate::cause::Place;
 use crate::tree::{Members, Put, ToJson, members};
@@ -16,9 +16,10 @@ impl ToJson for CrashPoint<'_> {
 
     #[tactic(auto, unfolding(crate::specs::Point::point_json))]
     fn put(&self, out: &mut Writer, alloc: Global) -> Put {
+        let placed = placed_of(alloc, self.registers.as_slice())?;
         members! {
             "instruction": self.instruction,
-            "registers": Placed(&self.registers),
+            "registers": &placed,
             "code": self.code,
             "words": &self.words,
             "flags": Named(&self.flags),
@@ -62,19 +63,6 @@ impl Members for Named<'_> {
             value.put(out, alloc)?;
         }
         Ok(())
-    }
-}
-
-// The registers whose values lie in a module, an unloaded module or the stack of a thread, of these.
-#[derive(Clone, Copy)]
-struct Placed<'l>(&'l Vec<(&'static str, AddressFacts)>);
-
-impl ToJson for Placed<'_> {
-    ghost json = { λ p. placed_json (map (λ r. (r.0.now, r.1)) p.0.now.items) };
-
-    fn put(&self, out: &mut Writer, alloc: Global) -> Put {
-        let placed = placed_of(alloc, self.0.as_slice())?;
-        placed.put(out, alloc)
     }
 }
 

@@ -1,24 +1,30 @@
-//! Handles and their kinds, what macOS keeps of a crash and of its boot, and an assertion.
+//! Handles and their kinds, what macOS keeps of a crash and of its boot, Mozilla's soft errors, and an
+//! assertion.
+ghost use Rattle.std.specs.Prelude.{◌≡◌, IfOk, IfSome};
+ghost use Rattle.std.specs.Option.{option_map};
 ghost use Rattle.json.specs.Json.{string};
+ghost use Rattle.json.specs.Tree.{HasNumbers};
+ghost use Rattle.json.specs.Value.{value_view};
 ghost use Rattle.minidump.specs.Below.Records.Record.{mac_record_of};
 ghost use Rattle.minidump.specs.Promise.{assertion_stream, handle_data_stream};
 ghost use Rattle.minidump.specs.Promise.{mac_bootargs_stream, mac_crash_info_stream};
+ghost use Rattle.minidump.specs.Promise.{soft_errors_stream};
 ghost use Rattle.minidump.specs.Below.Records.Handles.{handle_of};
 ghost use Rattle.crash.specs.HandleKinds.{kind_of};
 ghost use Rattle.crash_json.specs.Tree.{or_null};
 ghost use Rattle.crash_json.specs.Records.{assertion_json, assertion_kind, boot_args_json, handle_json};
 ghost use Rattle.crash_json.specs.Records.{handles_json, kind_json, mac_crash_json};
-ghost use Rattle.crash_json.specs.Records.{mac_record_json};
+ghost use Rattle.crash_json.specs.Records.{mac_record_json, soft_json, value_in};
 
 use crate::tree::{Length, Members, Optional, Put, Text, ToJson, members};
 use crash::HandleKind;
-use json::Writer;
+use json::{Reader, Scratch, Value, Writer};
 use minidump::own_streams::text_before_nul;
 use minidump::{
     MinidumpAssertion, MinidumpHandleDataStream, MinidumpHandleDescriptor, MinidumpMacBootargs,
-    MinidumpMacCrashInfo, RawMacCrashInfo,
+    MinidumpMacCrashInfo, MinidumpSoftErrors, RawMacCrashInfo,
 };
-use std::alloc::Global;
+use std::alloc::{AllocError, Global};
 
 // ---- handles
 
@@ -91,6 +97,44 @@ impl ToJson for MinidumpMacBootargs {
     #[tactic(auto, unfolding(crate::specs::Records::boot_args_json))]
     fn put(&self, out: &mut Writer, alloc: Global) -> Put {
         Optional(&self.bootargs).put(out, alloc)
+    }
+}
+
+// ---- soft errors
+
+// The value of their text if that is JSON, else the text.
+impl ToJson for MinidumpSoftErrors<'_> {
+    ghost json = { λ e. soft_json (soft_errors_stream.value e) };
+
+    #[tactic(auto, unfolding(crate::specs::Records::soft_json))]
+    fn put(&self, out: &mut Writer, alloc: Global) -> Put {
+        let text = self.as_ref();
+        let mut scratch = Scratch::new(alloc);
+        match value_in(alloc, text, &mut scratch)? {
+            Some(value) => out.value(&value),
+            None => out.string(text),
+        }
+    }
+}
+
+// Returns the value of a text that is JSON and nests at most 127 deep, or `None`.
+fn value_in<'a>(
+    alloc: Global,
+    text: &'a str,
+    scratch: &'a mut Scratch,
+) -> Result<Option<Value<'a>>, AllocError>
+    ensures value { IfOk result (λ found. option_map value_view found ≡ value_in text.now) }
+    ensures writable { IfOk result (λ found. IfSome found (λ v. HasNumbers (value_view v))) }
+{
+    let mut reader = Reader::new(text, scratch)?;
+    let value = match Value::read(alloc, &mut reader, 127) {
+        Ok(value) => value,
+        Err(json::Error::Invalid) => return Ok(None),
+        Err(_) => return Err(AllocError),
+    };
+    match reader.next() {
+        None => Ok(Some(value)),
+        Some(_) => Ok(None),
     }
 }
 

@@ -3,16 +3,15 @@ ghost use Rattle.std.specs.Prelude.{◌≡◌, ◌++◌, [], IfOk, OnOk, codes, 
 ghost use Rattle.std.specs.List.{cons_option};
 ghost use Rattle.std.specs.Option.{option_copied, option_map};
 ghost use Rattle.crash.specs.Modules.{loaded_of};
-ghost use Rattle.crash_symbols.specs.NameParts.{function_of};
 ghost use Rattle.crash_symbols.specs.Shown.{shown_frame_of};
 ghost use Rattle.crash_json.specs.ReportValue.{report_of};
-ghost use Rattle.crash_json.specs.Signature.{crashed_frames, joined, mark_of, mark_text, marks_in};
+ghost use Rattle.crash_json.specs.Signature.{crashed_frames, joined, mark_of, marks_in};
 ghost use Rattle.crash_json.specs.Signature.{signature_in, with_reason};
 
 use crate::cause::reason_of;
 use crate::report::Report;
 use crash::CrashModule;
-use crash_symbols::{FrameFunction, ShownFrame, shown_walk};
+use crash_symbols::{ShownFrame, shown_walk};
 use minidump::text::Piece::{Hex, Words};
 use minidump::text::format_pieces;
 use std::alloc::{AllocError, Global};
@@ -88,7 +87,8 @@ fn push_mark(
     Ok(())
 }
 
-// Makes the words for a frame, if it is in a module.
+// Makes the words for a frame, if it is in a module: the name of its function or, if that isn't known, the
+// file of its module with the offset in it.
 fn mark_of(
     alloc: Global,
     modules: &[CrashModule],
@@ -100,27 +100,17 @@ fn mark_of(
     let Some((index, offset)) = frame.frame.module else {
         return Ok(None);
     };
-    match modules.get(index) {
-        Some(module) => Ok(Some(mark_text(alloc, frame.function, module.file.as_str(), offset)?)),
-        None => Ok(None),
-    }
-}
-
-// Makes the words for a frame: the name of its function or, if that isn't known, the file of its
-// module with the offset in it.
-fn mark_text(
-    alloc: Global,
-    function: Option<FrameFunction<'_>>,
-    file: &str,
-    offset: u64,
-) -> Result<String, AllocError>
-    ensures { IfOk result (λ mark. string_bytes mark
-        ≡ mark_text (option_map function_of function.entry) file.now offset) }
-{
-    match function {
-        Some(function) => function.name.to_string_lossy(alloc),
-        None => format_pieces(alloc, &[Words(file), Words("+"), Hex(offset)]),
-    }
+    let Some(module) = modules.get(index) else {
+        return Ok(None);
+    };
+    let mark = match frame.function {
+        Some(function) => function.name.to_string_lossy(alloc)?,
+        None => format_pieces(
+            alloc,
+            &[Words(module.file.as_str()), Words("+"), Hex(offset)],
+        )?,
+    };
+    Ok(Some(mark))
 }
 
 // Joins the reason, if there is one, and the words for frames.

@@ -5,4 +5,4 @@ use Rattle.crash_json.proofs.crashpad.MinidumpCrashpadInfoToJson.put.Goals as go
 
 pub returns : goal.returns
 unfolding crashpad_json
-returns c = simp views (simp views at c.put_object.ensures)
+returns c = simp views c.put_object.ensures

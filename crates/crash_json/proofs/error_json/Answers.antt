@@ -4,7 +4,7 @@ use Rattle.json.specs.Print.{print}
 use Rattle.crash_json.specs.Report.{error_json}
 use Rattle.crash_json.proofs.Depth.{error_depth}
 use Rattle.crash_json.proofs.Tokens.{document_of_put}
-use Rattle.crash_json.proofs.error_line.error_json.Goals as goal
+use Rattle.crash_json.proofs.error_json.Goals as goal
 
 pub returns-clause-text : goal.returns-clause-text
 unfolding error_json
