@@ -1,5 +1,4 @@
 mod GreatestLemmas
 mod NumberLemmas
-mod PathLemmas
 mod SymbolLemmas
 mod Utf8Lemmas

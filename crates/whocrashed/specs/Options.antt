@@ -1,6 +1,6 @@
 -- What an option says, by the text that clap found for it.
 use Rattle.std.specs.Prelude.{◌≡◌, ◌<◌, ◌^◌, ◌==◌, ◌&&◌, ◌||◌, ℕ, Bool, false, true, List, [], Some, None, bytes_eq}
-use Rattle.std.specs.Prelude.{codes, count_by, length, map, nat_lt, option_map, string_bytes, String, unwrap_or}
+use Rattle.std.specs.Prelude.{codes, count_by, length, map, nat_lt, not, option_map, string_bytes, String, unwrap_or}
 use Rattle.std.specs.Prelude.{if◌then◌else◌}
 use Rattle.std.specs.Global.{Global}
 use Rattle.std.specs.Str.Parse.{IsNumeral, digits_value, without_leading_plus}
@@ -60,6 +60,10 @@ pub record AreAskedFor (command : Command) (words : List (String Global)) (optio
   pub matches : ArgMatches
   pub has : HasMatchesOf (app_of command) (map string_bytes words) matches
   pub are : AreOptions (found_of matches) options
+
+-- there are directories in which symbol files are looked for
+abbrev pub has_dirs : Options → Bool
+has_dirs options = not (length options.symbols.items == 0)
 
 -- how many of the arguments are `-`, the dump on standard input
 abbrev pub inputs_in : List (List ℕ) → ℕ

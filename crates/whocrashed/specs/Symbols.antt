@@ -1,5 +1,5 @@
 -- What is known of a module's symbol file after it was looked for.
-use Rattle.std.specs.Prelude.{◌≡◌, ◌≢◌, ℕ, ◌==◌, Bool, not, true, List, length, map, slice_get, ⊤}
+use Rattle.std.specs.Prelude.{◌≡◌, ◌≢◌, ℕ, true, List, map, slice_get, ⊤}
 use Rattle.std.specs.Prelude.{Option, Some, None, IfSome, is_some, Result, Ok, Err, if◌then◌else◌}
 use Rattle.std.specs.Borrow.{Bor}
 use Rattle.std.specs.List.{AllZip}
@@ -17,11 +17,6 @@ use Rattle.crash_symbols.specs.declared.symbols.SymbolState.TheVariants.{Corrupt
 use Rattle.crash_symbols.specs.declared.symbols.SymbolState.TheVariants.{OutOfMemory, Unwanted}
 use Rattle.whocrashed.specs.declared.symbols.NoSymbols.{NoSymbols}
 use Rattle.whocrashed.specs.declared.symbols.NoSymbols.TheVariants as reason
-use Rattle.whocrashed.specs.declared.symbols.SymbolCache.{SymbolCache}
-
--- there are directories in which symbol files are looked for
-abbrev pub has_dirs : SymbolCache → Bool
-has_dirs cache = not (length cache.dirs.now == 0)
 
 -- the state of a module that was looked for and has no symbol file: neither unwanted nor loaded
 abbrev pub state_without : NoSymbols → SymbolState
@@ -53,15 +48,10 @@ abbrev pub state_read : Result (Bor SymbolFile) NoSymbols → SymbolState
 state_read (Ok file) = Loaded
 state_read (Err why) = state_without why
 
--- symbols, if they are those of a module
-abbrev pub of_module : Option SymbolsValue → LoadedValue → Option SymbolsValue
-of_module (Some s) m = if is_of_module s m then Some s else None
-of_module None m = None
-
--- the state of symbols as those of a module: damaged if they are another's
-abbrev pub state_of_module : Option SymbolsValue → SymbolState → LoadedValue → SymbolState
-state_of_module (Some s) state m = if is_of_module s m then Loaded else Corrupt
-state_of_module None state m = state
+-- what was looked for, as the file of a module: damaged if it is another's
+abbrev pub of_module : Result (Bor SymbolFile) NoSymbols → LoadedValue → Result (Bor SymbolFile) NoSymbols
+of_module (Ok file) m = if is_of_module (symbols_of file.now) m then Ok file else Err reason.Corrupt
+of_module (Err why) m = Err why
 
 -- a symbol file, if it is known, is that of a module
 abbrev pub Belongs : LoadedValue → Option SymbolsValue → Type 0

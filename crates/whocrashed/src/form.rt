@@ -3,7 +3,7 @@ ghost use Rattle.std.specs.Option.{option_copied, option_map};
 ghost use Rattle.crash.specs.Crash.{crash_of};
 ghost use Rattle.crash_symbols.specs.Shown.{symbolized_of};
 ghost use Rattle.whocrashed.specs.Form.{IsByFiles, form_in};
-ghost use Rattle.whocrashed.specs.Symbols.{has_dirs};
+ghost use Rattle.whocrashed.specs.Options.{has_dirs};
 
 use crate::options::Form;
 use crate::report::Reporter;
@@ -28,14 +28,14 @@ impl Reporter<'_, '_, '_> {
         crash: &Crash<'_>,
         cache: &mut SymbolCache<'_>,
     ) -> Result<Vec<u8>, AllocError>
-        ensures plain { has_dirs cache.old ≡ false → IfOk result (λ form. form.items
+        ensures plain { has_dirs self.now.options.now ≡ false → IfOk result (λ form. form.items
             ≡ form_in self.now.options.now.form self.now.options.now.limits path.now None
             (crash_of crash.now)) }
-        ensures by_files { has_dirs cache.old ≡ true → IfOk result (λ form. IsByFiles
+        ensures by_files { has_dirs self.now.options.now ≡ true → IfOk result (λ form. IsByFiles
             self.now.options.now.form self.now.options.now.limits self.now.options.now.scan path.now
             (crash_of crash.now) form.items) }
     {
-        if !cache.has_dirs() {
+        if self.options.symbols.is_empty() {
             return self.form_by(path, crash, None);
         }
         let (alloc, scan) = (self.rt.alloc(), self.options.scan);

@@ -1,8 +1,7 @@
-ghost use Rattle.std.specs.Prelude.{◌≡◌, ◌==◌, ◌∷◌, ◌++◌, [], IfOk, IfSome, OnOk, filter, map, vec_items};
-ghost use Rattle.std.specs.List.{slice_split};
+ghost use Rattle.std.specs.Prelude.{◌≡◌, ◌++◌, IfOk, IfSome, map, vec_items};
 ghost use Rattle.std.specs.Option.{option_map};
-ghost use Rattle.whocrashed.specs.Input.{asked_in, asked_of, by_argument, by_list, is_path};
-ghost use Rattle.whocrashed.specs.Input.{separator_of, within};
+ghost use Rattle.whocrashed.specs.Input.{asked_in, asked_of, by_argument, by_list, separator_of};
+ghost use Rattle.whocrashed.specs.Input.{within};
 
 use std::alloc::{AllocError, Global};
 use std::fs::File;
@@ -30,63 +29,31 @@ pub(crate) fn dumps_in<'l>(
     ensures { IfOk result (λ dumps. map asked_of dumps.items
         ≡ map (λ a. by_argument a.now) arguments.now ++ asked_in list.now) }
 {
-    let parts = parts_of(alloc, list)?;
-    let mut dumps = dumps_of(alloc, arguments)?;
-    push_listed(&mut dumps, parts.as_slice())?;
-    Ok(dumps)
-}
-
-// Returns the dumps of the arguments.
-fn dumps_of<'l>(alloc: Global, arguments: &[&'l str]) -> Result<Vec<Dump<'l>>, AllocError>
-    ensures { IfOk result (λ dumps. map asked_of dumps.items
-        ≡ map (λ a. by_argument a.now) arguments.now) }
-{
-    let mut dumps = Vec::new(alloc);
-    for path in arguments {
-        let dump = if *path == "-" {
-            Dump::Input
-        } else {
-            Dump::File(*path)
-        };
-        dumps.push(dump)?;
-    }
-    Ok(dumps)
-}
-
-// Cuts a list of paths into its parts.
-fn parts_of(alloc: Global, list: &[u8]) -> Result<Vec<&[u8]>, AllocError>
-    ensures { IfOk result (λ parts. map (λ p. p.now) parts.items
-        ≡ slice_split (λ b. b == separator_of list.now) list.now) }
-{
     let separator = separator_of(list);
-    list.split(|byte| *byte == separator).collect(alloc)
+    let paths = list
+        .split(|byte| *byte == separator)
+        .filter(|path| !path.is_empty());
+    arguments
+        .iter()
+        .map(|path| by_argument(path))
+        .chain(paths.map(|path| by_list(path)))
+        .collect(alloc)
 }
 
-// Appends the dumps of the parts of a list.
-fn push_listed<'l>(dumps: &mut Vec<Dump<'l>>, parts: &[&'l [u8]]) -> Result<(), AllocError>
-    ensures { OnOk result (map asked_of dumps.new.items ≡ map asked_of dumps.old.items
-        ++ map by_list (filter is_path (map (λ p. p.now) parts.now))) }
+// Returns the dump of an argument.
+fn by_argument(path: &str) -> Dump<'_>
+    ensures { asked_of result ≡ by_argument path.now }
 {
-    for path in parts {
-        push_path(dumps, *path)?;
+    if path == "-" {
+        Dump::Input
+    } else {
+        Dump::File(path)
     }
-    Ok(())
-}
-
-// Appends the dump of a path, unless the path is empty.
-fn push_path<'l>(dumps: &mut Vec<Dump<'l>>, path: &'l [u8]) -> Result<(), AllocError>
-    ensures { OnOk result (map asked_of dumps.new.items ≡ map asked_of dumps.old.items
-        ++ map by_list (filter is_path (path.now ∷ []))) }
-{
-    if !path.is_empty() {
-        dumps.push(listed(path))?;
-    }
-    Ok(())
 }
 
 // Returns the dump of a path in a list.
 #[tactic(auto, using(crate::proofs::Utf8Lemmas::tells_utf8))]
-fn listed(path: &[u8]) -> Dump<'_>
+fn by_list(path: &[u8]) -> Dump<'_>
     ensures { asked_of result ≡ by_list path.now }
 {
     match str::from_utf8(path) {

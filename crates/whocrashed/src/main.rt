@@ -33,7 +33,7 @@
 //! # What is proved
 //!
 //! The dumps are the values of the argument `DUMP`, and after them the paths of the list, both in
-//! their order: `dumps_of`, `dumps_in`. What is read of a file is all of it, or nothing if it has
+//! their order: `dumps_in`. What is read of a file is all of it, or nothing if it has
 //! more bytes than the limit: `read_to_limit`. The status of a dump is that of the crash that its
 //! bytes hold, whatever the form: `report_bytes`. It is 1 for a file that can't be read or is too
 //! large, and may be 1 for any where memory ran out: `report`. Arguments that give no options

@@ -1,4 +1,4 @@
-use crate::complain::complain_of;
+use crate::complain::complain;
 use crate::options::Options;
 use minidump_names::{NameTable, family_name, listing_in};
 use std::alloc::{AllocError, Global};
@@ -30,13 +30,13 @@ fn read_texts(rt: &HostRuntime, paths: &[&str]) -> io::Result<Option<Vec<Vec<u8>
         match fs::read(rt, *path) {
             Ok(text) => {
                 if let Err(error) = NameTable::read(rt.alloc(), &text) {
-                    complain_of(rt, *path, &error)?;
+                    complain(rt, *path, &error)?;
                     return Ok(None);
                 }
                 texts.push(text)?;
             }
             Err(error) => {
-                complain_of(rt, *path, &error)?;
+                complain(rt, *path, &error)?;
                 return Ok(None);
             }
         }

@@ -28,10 +28,8 @@ doesn't change it. If the pipe that is written to is closed, the run ends with t
 
 // What stands behind an option.
 enum Takes {
-    // nothing: it is a flag
-    Nothing,
-    // nothing, and none of these options may stand beside it
-    NothingBeside(&'static [&'static str]),
+    // nothing: it is a flag, and none of these options may stand beside it
+    Nothing(&'static [&'static str]),
     // a path, which the help calls so, each time that the option is given
     Paths(&'static str),
     // a number, which the help calls so, and the one that counts if the option isn't given
@@ -46,19 +44,19 @@ const OPTIONS: &[(&str, Takes, &str)] = &[
     ("symbols-limit", Takes::Number("BYTES", GIBIBYTE), "Read no symbol file with more than BYTES"),
     ("names", Takes::Paths("FILE"),
         "Add the names of codes in FILE; of two names of a code that of the last FILE counts"),
-    ("only-names", Takes::Nothing, "Leave out the names of codes that are compiled in"),
-    ("all-threads", Takes::Nothing, "Print all frames of each thread in the lines of text"),
-    ("lists", Takes::Nothing,
+    ("only-names", Takes::Nothing(&[]), "Leave out the names of codes that are compiled in"),
+    ("all-threads", Takes::Nothing(&[]), "Print all frames of each thread in the lines of text"),
+    ("lists", Takes::Nothing(&[]),
         "Print all streams, modules, regions of memory, handles and limits in the lines of text"),
-    ("modules", Takes::Nothing, "Print all modules in the lines of text, those that were unloaded too"),
-    ("handles", Takes::Nothing, "Print all handles in the lines of text"),
-    ("environment", Takes::Nothing, "Print the variables of Linux's environment, which may hold secrets"),
+    ("modules", Takes::Nothing(&[]), "Print all modules in the lines of text, those that were unloaded too"),
+    ("handles", Takes::Nothing(&[]), "Print all handles in the lines of text"),
+    ("environment", Takes::Nothing(&[]), "Print the variables of Linux's environment, which may hold secrets"),
     ("frames", Takes::Number("N", "64"), "Print at most N frames of a thread, its candidates included, where N is 1 or more"),
     ("scan", Takes::Number("N", "16"), "Print at most N candidates of a stack"),
-    ("json", Takes::Nothing, "Print a line of JSON for each DUMP"),
-    ("html", Takes::NothingBeside(&["json", "stdin-paths"]), "Print a page in HTML on the one DUMP"),
-    ("progress", Takes::Nothing, "Say on standard error how many dumps are done"),
-    ("stdin-paths", Takes::Nothing,
+    ("json", Takes::Nothing(&[]), "Print a line of JSON for each DUMP"),
+    ("html", Takes::Nothing(&["json", "stdin-paths"]), "Print a page in HTML on the one DUMP"),
+    ("progress", Takes::Nothing(&[]), "Say on standard error how many dumps are done"),
+    ("stdin-paths", Takes::Nothing(&[]),
         "Take paths of dumps from standard input too, with NULs or else line feeds between them"),
     ("limit", Takes::Number("BYTES", GIBIBYTE), "Read no dump, and no list of paths, with more than BYTES"),
 ];
@@ -66,7 +64,7 @@ const OPTIONS: &[(&str, Takes, &str)] = &[
 const GIBIBYTE: &str = "1073741824";
 
 /// What is printed of a dump.
-#[derive(Clone, Copy, PartialEq)]
+#[derive(Clone, Copy)]
 pub(crate) enum Form {
     /// Lines of text.
     Lines,
@@ -134,7 +132,7 @@ fn refusal(options: &Options<'_>) -> Option<(ErrorKind, &'static str)>
     ensures { is_some result ≡ is_refused options.now.form options.now.limits.frames
         (map (λ p. p.now) options.now.dumps.items) options.now.are_listed }
 {
-    if options.form == Form::Html && options.dumps.len() > 1 {
+    if matches!(options.form, Form::Html) && options.dumps.len() > 1 {
         return Some((ErrorKind::TooManyValues, "--html takes one DUMP"));
     }
     if has_several_inputs(options.dumps.as_slice(), options.are_listed) {
@@ -223,32 +221,25 @@ fn values_of<'w>(
     ensures { IfOk result (λ values. map (λ v. v.now) values.items
         ≡ values_in (found_of matches.now) id.now) }
 {
-    match matches.get_strs(id) {
-        Some(values) => Vec::from_slice(alloc, values),
-        None => Ok(Vec::new(alloc)),
-    }
+    Vec::from_slice(alloc, matches.get_strs(id).unwrap_or(&[]))
 }
 
-// Makes the command, which knows the options and the argument.
+// Makes the command, which knows the options and the dumps.
 fn command<'w>(alloc: Global) -> Result<Command<'w>, AllocError> {
-    let mut command = Command::new(alloc, "whocrashed")
+    let arguments = arguments(alloc)?;
+    Command::new(alloc, "whocrashed")
         .no_binary_name(true)
         .version("0.27.0+rattle.1")
         .about(ABOUT)
-        .after_help(EXAMPLES);
+        .after_help(EXAMPLES)
+        .args(arguments)
+}
+
+// Makes the arguments of the command: the options, and then the dumps.
+fn arguments<'w>(alloc: Global) -> Result<Vec<Arg<'w>>, AllocError> {
+    let mut arguments = Vec::new(alloc);
     for (name, takes, help) in OPTIONS {
-        let arg = Arg::new(alloc, *name).long(*name).help(*help);
-        command = command.arg(match takes {
-            Takes::Nothing => arg.action(ArgAction::SetTrue),
-            Takes::NothingBeside(names) => {
-                arg.action(ArgAction::SetTrue).conflicts_with_all(*names)?
-            }
-            Takes::Paths(value) => arg.value_name(*value).action(ArgAction::Append),
-            Takes::Number(value, default) => arg
-                .value_name(*value)
-                .value_parser(value_parser!(usize))
-                .default_value(*default),
-        })?;
+        arguments.push(option(Arg::new(alloc, *name).long(*name).help(*help), takes)?)?;
     }
     let dumps = Arg::new(alloc, "dumps")
         .value_name("DUMP")
@@ -256,5 +247,19 @@ fn command<'w>(alloc: Global) -> Result<Command<'w>, AllocError> {
         .action(ArgAction::Append)
         .num_args(1..)
         .required_unless_present("stdin-paths")?;
-    command.arg(dumps)
+    arguments.push(dumps)?;
+    Ok(arguments)
+}
+
+// Makes an argument an option, by what stands behind it.
+fn option<'w>(arg: Arg<'w>, takes: &Takes) -> Result<Arg<'w>, AllocError> {
+    match takes {
+        Takes::Nothing(others) => arg.action(ArgAction::SetTrue).conflicts_with_all(*others),
+        Takes::Paths(value) => Ok(arg.value_name(*value).action(ArgAction::Append)),
+        Takes::Number(value, default) => Ok(
+            arg.value_name(*value)
+                .value_parser(value_parser!(usize))
+                .default_value(*default),
+        ),
+    }
 }

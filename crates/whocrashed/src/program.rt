@@ -4,7 +4,7 @@ ghost use Rattle.clap.specs.Words.{kind_of};
 ghost use Rattle.whocrashed.specs.Input.{asked_in, asked_of, by_argument};
 ghost use Rattle.whocrashed.specs.Status.{IsGreatest, IsListOf, MayHave, status_of_kind, status_without};
 
-use crate::complain::{complain, complain_in_any_case, complain_of, say};
+use crate::complain::{complain, complain_in_any_case, say};
 use crate::input::{Dump, Files, ReadDumps, dumps_in};
 use crate::names::names_text;
 use crate::options::Options;
@@ -47,7 +47,7 @@ pub(crate) fn complain_of_arguments(rt: &HostRuntime, error: &io::Error) -> u8
             1
         }
         _ => {
-            let _ = complain(rt, "whocrashed", "an argument isn't UTF-8");
+            let _ = complain(rt, "whocrashed", &"an argument isn't UTF-8");
             2
         }
     }
@@ -103,7 +103,7 @@ fn obey<'o>(rt: &'o HostRuntime, options: &'o Options<'_>) -> io::Result<u8>
             }
         }
         Err(error) => {
-            complain_of(rt, "names of codes", &error)?;
+            complain(rt, "names of codes", &error)?;
             Ok(1)
         }
     }
@@ -146,18 +146,17 @@ fn list_of<S: ReadDumps>(
     ensures list { IfOk result (λ list. IsListOf (S.reads source.now)
         reporter.now.options.now.are_listed worst.old list.items worst.new) }
 {
-    let none = Vec::new(reporter.rt.alloc());
     if !reporter.options.are_listed {
-        return Ok(none);
+        return Ok(Vec::new(reporter.rt.alloc()));
     }
     let name = "standard input";
     match source.read_input() {
         Ok(Some(list)) => return Ok(list),
-        Ok(None) => complain(reporter.rt, name, "the list of paths is too large")?,
-        Err(error) => complain_of(reporter.rt, name, &error)?,
+        Ok(None) => complain(reporter.rt, name, &"the list of paths is too large")?,
+        Err(error) => complain(reporter.rt, name, &error)?,
     }
     *worst = 1;
-    Ok(none)
+    Ok(Vec::new(reporter.rt.alloc()))
 }
 
 // Reports on each of dumps, which `source` reads. Makes `worst` the greatest of their statuses and of
@@ -176,16 +175,11 @@ fn report_each<S: ReadDumps>(
         reporter.now.names.now reporter.now.options.now.scan) worst.old
         (map asked_of (take count dumps.now)) worst.new) }
 {
-    let options = reporter.options;
-    let mut cache = SymbolCache::new(
-        reporter.rt,
-        options.symbols.as_slice(),
-        options.symbols_limit,
-    );
+    let mut cache = SymbolCache::new(reporter.rt, reporter.options);
     for (i, dump) in dumps.iter().enumerate() {
         let status = reporter.report(source, *dump, &mut cache)?;
         *worst = (*worst).max(status);
-        if options.shows_progress {
+        if reporter.options.shows_progress {
             show_progress(reporter.rt, i, dumps.len());
         }
     }

@@ -4,7 +4,7 @@ ghost use Rattle.crash_json.specs.Report.{error_text};
 ghost use Rattle.whocrashed.specs.Input.{asked_of};
 ghost use Rattle.whocrashed.specs.Status.{HasStatus, MayHave, status_read};
 
-use crate::complain::{complain, complain_in_any_case, complain_of, say};
+use crate::complain::{complain, complain_in_any_case, say};
 use crate::form::end_line;
 use crate::input::{Dump, ReadDumps};
 use crate::options::{Form, Options};
@@ -14,7 +14,7 @@ use crash_json::error_json;
 use crash_text::push_line;
 use minidump::text::Piece;
 use minidump::{CodeNames, Error};
-use std::io;
+use std::{fmt, io};
 
 const NO_MEMORY: &str = "{\"path\":null,\"status\":\"OutOfMemory\"}\n";
 
@@ -67,7 +67,7 @@ impl Reporter<'_, '_, '_> {
             Dump::Malformed(path) => {
                 // it is printed with U+FFFD for what isn't UTF-8
                 let path = String::from_utf8_lossy(self.rt.alloc(), path)?;
-                self.report_failure(path.as_str(), "the path isn't UTF-8")
+                self.report_failure(path.as_str(), &"the path isn't UTF-8")
             }
         }
     }
@@ -105,13 +105,10 @@ impl Reporter<'_, '_, '_> {
             Ok(None) => {
                 let limit = self.options.limit;
                 let words = format!(in self.rt.alloc(); "larger than {limit} bytes")?;
-                self.report_failure(path, words.as_str())
+                self.report_failure(path, &words)
             }
             Err(error) if error.kind() == io::ErrorKind::OutOfMemory => Err(error),
-            Err(error) => {
-                let words = format!(in self.rt.alloc(); "{error}")?;
-                self.report_failure(path, words.as_str())
-            }
+            Err(error) => self.report_failure(path, &error),
         }
     }
 
@@ -138,7 +135,7 @@ impl Reporter<'_, '_, '_> {
     // Prints the path of a dump before its lines if it isn't the only one.
     fn print_heading(&self, path: &str) -> io::Result<()> {
         let is_one = self.options.dumps.len() == 1 && !self.options.are_listed;
-        if self.options.form == Form::Lines && !is_one {
+        if matches!(self.options.form, Form::Lines) && !is_one {
             let mut text = String::new(self.rt.alloc());
             push_line(&mut text, &[Piece::Words("dump    "), Piece::Words(path)])?;
             print!(self.rt; "{text}")?;
@@ -153,18 +150,19 @@ impl Reporter<'_, '_, '_> {
         match (error, self.options.form) {
             (Error::OutOfMemory, _) => Err(io::Error::from(io::ErrorKind::OutOfMemory)),
             (error, Form::Json) => self.print_error(path, error.name()),
-            (error, Form::Lines | Form::Html) => Ok(complain_of(self.rt, path, &error)?),
+            (error, Form::Lines | Form::Html) => Ok(complain(self.rt, path, &error)?),
         }
     }
 
     // Prints why there is no report on a file: on standard error, or as its line of JSON.
-    fn report_failure(&self, path: &str, words: &str) -> io::Result<u8>
+    fn report_failure<E: fmt::Display>(&self, path: &str, why: &E) -> io::Result<u8>
         ensures { IfOk result (λ status. status ≡ 1) }
     {
-        if self.options.form == Form::Json {
-            self.print_error(path, words)?;
+        if matches!(self.options.form, Form::Json) {
+            let words = format!(in self.rt.alloc(); "{why}")?;
+            self.print_error(path, words.as_str())?;
         } else {
-            complain(self.rt, path, words)?;
+            complain(self.rt, path, why)?;
         }
         Ok(1)
     }

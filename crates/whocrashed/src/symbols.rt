@@ -5,11 +5,11 @@ ghost use Rattle.breakpad_symbols.specs.SymbolFile.{symbols_in, symbols_of};
 ghost use Rattle.crash.specs.Modules.{LoadedValue, loaded_of};
 ghost use Rattle.crash_symbols.specs.Modules.{is_of_module};
 ghost use Rattle.crash_symbols.specs.Symbols.{known_of};
-ghost use Rattle.whocrashed.specs.Symbols.{IsAsked, IsNoFile, IsSound, has_dirs, of_module};
-ghost use Rattle.whocrashed.specs.Symbols.{state_of_kind, state_of_module, state_read, state_without};
-ghost use Rattle.whocrashed.specs.Symbols.{value_read};
+ghost use Rattle.whocrashed.specs.Symbols.{IsAsked, IsNoFile, IsSound, of_module, state_of_kind};
+ghost use Rattle.whocrashed.specs.Symbols.{state_read, state_without};
 
 use crate::input::read_file;
+use crate::options::Options;
 use breakpad_symbols::{SymbolError, SymbolFile};
 use crash::CrashModule;
 use crash_symbols::{SymbolState, Symbols, is_of_module, symbol_path};
@@ -45,24 +45,17 @@ pub(crate) struct SymbolCache<'l> {
 }
 
 impl<'l> SymbolCache<'l> {
-    /// Makes a cache without files.
-    pub(crate) fn new(rt: &'l HostRuntime, dirs: &'l [&'l str], limit: usize) -> SymbolCache<'l>
-        ensures dirs { result.dirs.now ≡ dirs.now }
-        ensures limit { result.limit ≡ limit }
+    /// Makes a cache without files, for the directories and the limit of the options.
+    pub(crate) fn new(rt: &'l HostRuntime, options: &'l Options<'_>) -> SymbolCache<'l>
+        ensures dirs { result.dirs.now ≡ options.now.symbols.items }
+        ensures limit { result.limit ≡ options.now.symbols_limit }
     {
         SymbolCache {
             rt,
-            dirs,
-            limit,
+            dirs: options.symbols.as_slice(),
+            limit: options.symbols_limit,
             files: BTreeMap::new(rt.alloc()),
         }
-    }
-
-    /// Tells whether there are directories of symbol files.
-    pub(crate) fn has_dirs(&self) -> bool
-        ensures { result ≡ has_dirs self.now }
-    {
-        !self.dirs.is_empty()
     }
 
     /// Looks for the symbol files of the modules with these indices, and puts what is found into
@@ -81,7 +74,8 @@ impl<'l> SymbolCache<'l> {
     {
         for index in wanted {
             let found = self.file_of(modules, *index);
-            put(symbols, *index, found);
+            set_at(&mut symbols.files, *index, found.ok());
+            set_at(&mut symbols.states, *index, state_read(found));
         }
     }
 
@@ -165,9 +159,7 @@ fn reason_of(kind: io::ErrorKind) -> NoSymbols
 
 // Returns a symbol file that was found if it is the module's.
 fn of_module(found: Found, loaded: &CrashModule) -> Found
-    ensures value { value_read result ≡ of_module (value_read found.entry) (loaded_of loaded.now) }
-    ensures state { state_read result ≡ state_of_module (value_read found.entry) (state_read found.entry)
-        (loaded_of loaded.now) }
+    ensures { result ≡ of_module found.entry (loaded_of loaded.now) }
 {
     match found {
         Ok(file) if is_of_module(file, loaded) => Ok(file),
@@ -192,17 +184,6 @@ pub(crate) fn unknown(
         symbols.states.push(SymbolState::Unwanted)?;
     }
     Ok(symbols)
-}
-
-// Puts what is known of a module's symbol file in its place.
-fn put(symbols: &mut Symbols<'static>, index: usize, found: Found)
-    ensures files { (known_of symbols.new).files
-        ≡ slice_set (known_of symbols.old).files index (value_read found.entry) }
-    ensures states { (known_of symbols.new).states
-        ≡ slice_set (known_of symbols.old).states index (state_read found.entry) }
-{
-    set_at(&mut symbols.files, index, found.ok());
-    set_at(&mut symbols.states, index, state_read(found));
 }
 
 // Returns the state of a symbol file that was looked for.
