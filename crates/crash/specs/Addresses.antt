@@ -19,7 +19,7 @@ use Rattle.crash.specs.declared.addresses.AddressMemory.{AddressMemory}
 use Rattle.crash.specs.declared.addresses.RegionState.{RegionState}
 use Rattle.crash.specs.declared.addresses.RegionState.TheVariants.{Committed, Free, Reserved}
 use Rattle.crash.specs.declared.stacks.StackRange.{StackRange}
-use Rattle.crash.specs.Contents.{ContentsValue}
+use Rattle.crash_streams.specs.Contents.{ContentsValue}
 use Rattle.crash.specs.Contexts.{system_of}
 use Rattle.crash.specs.Last.{last_index}
 use Rattle.crash.specs.Stacks.{named_stack}

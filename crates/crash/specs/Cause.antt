@@ -15,14 +15,14 @@ use Rattle.crash.specs.declared.addresses.AddressFacts.{AddressFacts}
 use Rattle.crash.specs.declared.cause.CrashCause.{CrashCause}
 use Rattle.crash.specs.declared.cause.CrashException.{CrashException}
 use Rattle.crash.specs.declared.contexts.ContextProblem.{ContextProblem}
-use Rattle.crash.specs.declared.records.Access.{Access}
-use Rattle.crash.specs.declared.records.Sender.{Sender}
+use Rattle.crash_streams.specs.declared.records.Access.{Access}
+use Rattle.crash_streams.specs.declared.records.Sender.{Sender}
 use Rattle.crash.specs.Addresses.{facts_of, has_code}
-use Rattle.crash.specs.Contents.{ContentsValue}
+use Rattle.crash_streams.specs.Contents.{ContentsValue}
 use Rattle.crash.specs.Contexts.{any_context, named_bytes, problem_in, system_of}
 use Rattle.crash.specs.Counting.{counted, counting}
-use Rattle.crash.specs.Records.{access_in, description_in, lacks_address, may_be_instruction}
-use Rattle.crash.specs.Records.{parameters_in, sender_in}
+use Rattle.crash_streams.specs.Records.{access_in, description_in, lacks_address, may_be_instruction}
+use Rattle.crash_streams.specs.Records.{parameters_in, sender_in}
 
 -- an exception: its thread, its code and flags, where it happened, where the record of another one
 -- is, its parameters, and LLDB's text over them; where the system is known, how memory was

@@ -26,7 +26,7 @@ use Rattle.crash.specs.declared.contexts.ContextProblem.TheVariants.{NoSystem, N
 use Rattle.crash.specs.declared.contexts.CrashContext.{CrashContext}
 use Rattle.crash.specs.declared.contexts.FoundContext.{FoundContext}
 use Rattle.crash.specs.declared.contexts.ShortContext.{ShortContext}
-use Rattle.crash.specs.Contents.{ContentsValue}
+use Rattle.crash_streams.specs.Contents.{ContentsValue}
 
 -- the registers with their names, how many bytes each has, whose context they are of, and how much
 -- of that there is, where it is cut

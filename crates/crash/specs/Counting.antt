@@ -5,7 +5,7 @@ use Rattle.std.specs.Option.{option_and_then, option_or}
 use Rattle.std.specs.Result.{result_ok}
 use Rattle.minidump.specs.declared.Error.{Error}
 use Rattle.minidump.specs.Exception.{Exception}
-use Rattle.crash.specs.Contents.{ContentsValue}
+use Rattle.crash_streams.specs.Contents.{ContentsValue}
 use Rattle.crash.specs.Last.{last_index}
 
 -- an exception tells of a crash: its code isn't 0

@@ -10,12 +10,13 @@ use Rattle.stack_walk.specs.Frames.{StackValue}
 use Rattle.crash.specs.declared.crash.Crash.{Crash}
 use Rattle.crash.specs.declared.damage.Damage.{Damage}
 use Rattle.crash.specs.Cause.{CauseValue, cause_in, cause_of}
-use Rattle.crash.specs.Contents.{ContentsValue, contents_in, contents_of}
+use Rattle.crash_streams.specs.Contents.{ContentsValue, contents_in, contents_of}
 use Rattle.crash.specs.Damage.{counted_damage, damage_by}
-use Rattle.crash.specs.Directory.{DirectoryValue, directory_in, directory_of}
-use Rattle.crash.specs.Modules.{ModulesValue, modules_in, modules_of}
+use Rattle.crash_streams.specs.Directory.{DirectoryValue, directory_in, directory_of}
+use Rattle.crash_streams.specs.Modules.{ModulesValue, modules_in, modules_of}
 use Rattle.crash.specs.Point.{PointValue, point_in, point_of}
-use Rattle.crash.specs.Process.{ProcessFacts, process_in, process_of}
+use Rattle.crash_streams.specs.Process.{ProcessFacts, process_in, process_of}
+use Rattle.crash.specs.Frames.{code_bits_in}
 use Rattle.crash.specs.Threads.{ThreadsValue, threads_in, threads_of, walked_at}
 
 -- a crash: the streams, and what is found in them
@@ -57,7 +58,7 @@ crash_by names scan d c = record {
   process = process_in d c;
   cause = cause_in names c;
   threads = threads_in names scan c;
-  point = point_in c (threads_in names scan c).crashing;
+  point = point_in c (code_bits_in c) (threads_in names scan c).crashing;
   modules = modules_in d c;
   damage = damage_in c (directory_in d c) (process_in d c) (cause_in names c)
       (threads_in names scan c);
@@ -76,4 +77,4 @@ status_of (Ok c) = if length c.damage == 0 then 0 else 1
 
 -- the stack and the context by which the thread of an index is walked
 abbrev pub walked_in : CrashValue → ℕ → Option (StackValue × MinidumpContext)
-walked_in c thread = walked_at c.contents thread
+walked_in c thread = walked_at c.contents c.threads.code_bits thread

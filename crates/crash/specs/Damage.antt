@@ -23,11 +23,11 @@ use Rattle.crash.specs.declared.contexts.ContextProblem.{ContextProblem}
 use Rattle.crash.specs.declared.contexts.ContextProblem.TheVariants.{Outside}
 use Rattle.crash.specs.declared.damage.Damage.{Damage}
 use Rattle.crash.specs.declared.damage.Damage.TheVariants as damage
-use Rattle.crash.specs.declared.directory.StreamEntry.{StreamEntry}
+use Rattle.crash_streams.specs.declared.directory.StreamEntry.{StreamEntry}
 use Rattle.crash.specs.Cause.{ExceptionValue}
-use Rattle.crash.specs.Contents.{ContentsValue}
-use Rattle.crash.specs.ProcessTexts.{CommentsValue}
-use Rattle.crash.specs.Directory.{DirectoryValue}
+use Rattle.crash_streams.specs.Contents.{ContentsValue}
+use Rattle.crash_streams.specs.ProcessTexts.{CommentsValue}
+use Rattle.crash_streams.specs.Directory.{DirectoryValue}
 use Rattle.crash.specs.Threads.{ThreadValue}
 
 -- ---- texts: none is where an entry names one by its RVA, or a surrogate of its UTF-16 lacks its partner

@@ -1,7 +1,7 @@
 -- What is found in the stack of a thread: its frames, each with its module, the candidates, and
 -- why there is no further caller.
 use Rattle.std.specs.Prelude.{ℕ, List, map, Option, Some}
-use Rattle.std.specs.Option.{option_and_then, option_map}
+use Rattle.std.specs.Option.{option_and_then, option_map, option_map_or}
 use Rattle.std.specs.Result.{result_ok}
 use Rattle.minidump.specs.declared.MinidumpContext.{MinidumpContext}
 use Rattle.minidump.specs.declared.MinidumpContextValidity.TheVariants.{All}
@@ -14,6 +14,7 @@ use Rattle.minidump.specs.Thread.{Thread}
 use Rattle.stack_walk.specs.declared.end.WalkEnd.{WalkEnd}
 use Rattle.stack_walk.specs.declared.frame.StackFrame.{StackFrame}
 use Rattle.stack_walk.specs.declared.stack.Stack.{Stack}
+use Rattle.stack_walk.specs.Addresses.{code_bits}
 use Rattle.stack_walk.specs.Frames.{StackValue, stack_of, stack_pointer_in}
 use Rattle.stack_walk.specs.Lookups.{lookup_address, module_place}
 use Rattle.stack_walk.specs.Threads.{ProcessValue, stack_in, thread_stack}
@@ -22,7 +23,7 @@ use Rattle.stack_walk.specs.Walk.{WalkValue}
 use Rattle.crash.specs.declared.contexts.FoundContext.{FoundContext}
 use Rattle.crash.specs.declared.frames.CrashFrame.{CrashFrame}
 use Rattle.crash.specs.declared.frames.CrashWalk.{CrashWalk}
-use Rattle.crash.specs.Contents.{ContentsValue}
+use Rattle.crash_streams.specs.Contents.{ContentsValue}
 use Rattle.crash.specs.Contexts.{context_at, found_in}
 
 -- the frames, the candidates, and why the last of the frames has no caller
@@ -63,15 +64,21 @@ walk_by s w = record {
 
 -- ---- walks
 
--- the process with such an exception, where the system is known
-abbrev pub process_in : ContentsValue → Option Exception → Option ProcessValue
-process_in c e = option_map (λ system. record {
+-- how many of the low bits of a return address are its address, by the system and the modules: all 64 where the
+-- system is unknown
+abbrev pub code_bits_in : ContentsValue → ℕ
+code_bits_in c = option_map_or (λ s. code_bits s.os s.cpu c.space.modules) (result_ok c.system.system) 64
+
+-- the process with such an exception, where the system is known, by how many of the low bits of a return
+-- address are its address
+abbrev pub process_in : ContentsValue → ℕ → Option Exception → Option ProcessValue
+process_in c bits e = option_map (λ system. record {
   system = system;
   exception = e;
   modules = c.space.modules;
   memory = c.space.memory;
   infos = info_regions c.space.infos;
-  code_bits = c.code_bits;
+  code_bits = bits;
 }) (result_ok c.system.system)
 
 -- the stack and the context by which a thread is walked, of a `Stack` and a context
@@ -89,10 +96,10 @@ walked_by p t context =
 
 -- the stack and the context by which a thread of the list is walked, by the contents and the
 -- exception that counts: none without a context
-abbrev pub thread_walked : ContentsValue → Option Exception → Thread
+abbrev pub thread_walked : ContentsValue → ℕ → Option Exception → Thread
     → Option (StackValue × MinidumpContext)
-thread_walked c e t = option_and_then
-    (λ p. option_map (λ f. walked_by p t (context_of f.1)) (found_in c e t)) (process_in c e)
+thread_walked c bits e t = option_and_then
+    (λ p. option_map (λ f. walked_by p t (context_of f.1)) (found_in c e t)) (process_in c bits e)
 
 -- the kept region of the memory that contains an address
 abbrev pub memory_at : UnifiedRegions → ℕ → Option UnifiedRegion
@@ -103,9 +110,9 @@ abbrev pub walked_at : ProcessValue → MinidumpContext → StackValue × Minidu
 walked_at p context = (stack_in p (memory_at p.memory (stack_pointer_in context.raw)), context)
 
 -- the stack and the context by which the thread of an exception is walked, which the list lacks
-abbrev pub exception_walked : ContentsValue → Exception → Option (StackValue × MinidumpContext)
-exception_walked c e = option_and_then
-    (λ p. option_map (λ f. walked_at p (context_of f)) (context_at c e)) (process_in c (Some e))
+abbrev pub exception_walked : ContentsValue → ℕ → Exception → Option (StackValue × MinidumpContext)
+exception_walked c bits e = option_and_then
+    (λ p. option_map (λ f. walked_at p (context_of f)) (context_at c e)) (process_in c bits (Some e))
 
 -- what is found in a stack by a context, with at most so many candidates
 abbrev pub walk_from : ℕ → StackValue × MinidumpContext → CrashWalkValue

@@ -1,23 +1,12 @@
 -- The definitions that the contracts cite: the crash of a file is `crash_in` of Crash.antt.
-pub mod FileName
-pub mod Missing
-pub mod Contents
 pub mod Last
-pub mod Directory
-pub mod Release
-pub mod ProcessTexts
-pub mod HandleKinds
-pub mod Linux
-pub mod Process
 pub mod Contexts
 pub mod Counting
-pub mod Records
 pub mod Stacks
 pub mod Addresses
 pub mod Cause
 pub mod Frames
 pub mod Threads
 pub mod Point
-pub mod Modules
 pub mod Damage
 pub mod Crash

@@ -18,7 +18,7 @@ use Rattle.crash.specs.declared.addresses.AddressFacts.{AddressFacts}
 use Rattle.crash.specs.declared.point.CrashPoint.{CrashPoint}
 use Rattle.crash.specs.declared.point.StackWord.{StackWord}
 use Rattle.crash.specs.Addresses.{facts_of}
-use Rattle.crash.specs.Contents.{ContentsValue}
+use Rattle.crash_streams.specs.Contents.{ContentsValue}
 use Rattle.crash.specs.Contexts.{register_values}
 use Rattle.crash.specs.Frames.{memory_at}
 use Rattle.crash.specs.Threads.{walked_at}
@@ -145,6 +145,6 @@ point_by c s context = record {
 }
 
 -- that of the thread of an index, which has a walk
-abbrev pub point_in : ContentsValue → Option ℕ → Option PointValue
-point_in c thread =
-    option_map (λ w. point_by c w.0 w.1) (option_and_then (walked_at c) thread)
+abbrev pub point_in : ContentsValue → ℕ → Option ℕ → Option PointValue
+point_in c bits thread =
+    option_map (λ w. point_by c w.0 w.1) (option_and_then (walked_at c bits) thread)

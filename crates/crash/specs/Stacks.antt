@@ -4,7 +4,7 @@ use Rattle.std.specs.Option.{option_map}
 use Rattle.minidump.specs.declared.format.MINIDUMP_MEMORY_DESCRIPTOR.{MINIDUMP_MEMORY_DESCRIPTOR}
 use Rattle.minidump.specs.Thread.{Thread, stack_of}
 use Rattle.crash.specs.declared.stacks.StackRange.{StackRange}
-use Rattle.crash.specs.Contents.{ContentsValue}
+use Rattle.crash_streams.specs.Contents.{ContentsValue}
 
 -- where a stack is, as an entry names it: nowhere if it is empty
 abbrev pub named_stack : MINIDUMP_MEMORY_DESCRIPTOR → Option StackRange

@@ -22,13 +22,13 @@ use Rattle.crash.specs.declared.contexts.ShortContext.{ShortContext}
 use Rattle.crash.specs.declared.threads.CrashThread.{CrashThread}
 use Rattle.crash.specs.declared.threads.CrashThreads.{CrashThreads}
 use Rattle.crash.specs.declared.stacks.StackRange.{StackRange}
-use Rattle.crash.specs.Contents.{ContentsValue}
+use Rattle.crash_streams.specs.Contents.{ContentsValue}
 use Rattle.crash.specs.declared.contexts.ContextOrigin.TheVariants.{OfException}
 use Rattle.crash.specs.Contexts.{ContextValue, context_at, context_by, context_of, found_in}
 use Rattle.crash.specs.Contexts.{named_bytes, of_origin, problem_in, system_of}
 use Rattle.crash.specs.Counting.{counting_exception}
-use Rattle.crash.specs.Frames.{CrashWalkValue, crash_walk_of, exception_walked, thread_walked}
-use Rattle.crash.specs.Frames.{walk_from}
+use Rattle.crash.specs.Frames.{CrashWalkValue, code_bits_in, crash_walk_of, exception_walked}
+use Rattle.crash.specs.Frames.{thread_walked, walk_from}
 use Rattle.crash.specs.Last.{last_index}
 use Rattle.crash.specs.Stacks.{is_outside, named_stack, stack_memory}
 
@@ -46,10 +46,12 @@ pub record ThreadValue : Type 0 where
   pub walk : Option CrashWalkValue
   pub last_error : Option (List ℕ)
 
--- the threads, and the index of the one that crashed
+-- the threads, the index of the one that crashed, and how many of the low bits of a return address are its
+-- address
 pub record ThreadsValue : Type 0 where
   pub threads : List ThreadValue
   pub crashing : Option ℕ
+  pub code_bits : ℕ
 
 -- ---- the value of the structs
 
@@ -68,7 +70,11 @@ thread_value t = record {
 }
 
 abbrev pub threads_of : CrashThreads → ThreadsValue
-threads_of t = record { threads = map thread_value t.threads.items; crashing = t.crashing }
+threads_of t = record {
+  threads = map thread_value t.threads.items;
+  crashing = t.crashing;
+  code_bits = t.code_bits;
+}
 
 -- how much there is of the context of a thread's registers, where that is cut
 abbrev pub short_context : ThreadValue → Option ShortContext
@@ -92,8 +98,8 @@ last_error_in names c t = option_map (reason_text names)
     (option_and_then (λ s. error_on s.os s.cpu names c.space.memory t) (system_of c))
 
 -- a thread of the list, by the exception that counts
-abbrev pub thread_in : Lists → ℕ → ContentsValue → Option Exception → Thread → ThreadValue
-thread_in names scan c e t = record {
+abbrev pub thread_in : Lists → ℕ → ContentsValue → ℕ → Option Exception → Thread → ThreadValue
+thread_in names scan c bits e t = record {
   id = t.raw.thread_id;
   is_listed = true;
   name = name_in c.threads.names t.raw.thread_id;
@@ -102,7 +108,7 @@ thread_in names scan c e t = record {
   stack = named_stack t.raw.stack;
   stack_memory = stack_memory c t;
   is_stack_outside = is_outside t;
-  walk = option_map (walk_from scan) (thread_walked c e t);
+  walk = option_map (walk_from scan) (thread_walked c bits e t);
   last_error = last_error_in names c t;
 }
 
@@ -123,8 +129,8 @@ unlisted c (Some e) = if has_thread e.thread_id c.threads.threads then None else
 unlisted c None = None
 
 -- the thread of such an exception
-abbrev pub extra_in : ℕ → ContentsValue → Exception → ThreadValue
-extra_in scan c e = record {
+abbrev pub extra_in : ℕ → ContentsValue → ℕ → Exception → ThreadValue
+extra_in scan c bits e = record {
   id = e.thread_id;
   is_listed = false;
   name = name_in c.threads.names e.thread_id;
@@ -133,14 +139,14 @@ extra_in scan c e = record {
   stack = None;
   stack_memory = None;
   is_stack_outside = false;
-  walk = option_map (walk_from scan) (exception_walked c e);
+  walk = option_map (walk_from scan) (exception_walked c bits e);
   last_error = None;
 }
 
 -- the threads of the list, and after them that of the exception where the list lacks it
-abbrev pub all_threads : Lists → ℕ → ContentsValue → Option Exception → List ThreadValue
-all_threads names scan c e = map (thread_in names scan c e) (entries_in c.threads.threads)
-    ++ option_map_or (λ e. extra_in scan c e ∷ []) (unlisted c e) []
+abbrev pub all_threads : Lists → ℕ → ContentsValue → ℕ → Option Exception → List ThreadValue
+all_threads names scan c bits e = map (thread_in names scan c bits e) (entries_in c.threads.threads)
+    ++ option_map_or (λ e. extra_in scan c bits e ∷ []) (unlisted c e) []
 
 -- the index of the thread that crashed: the last of the exception's id
 abbrev pub crashing_at : List ThreadValue → Option Exception → Option ℕ
@@ -149,8 +155,10 @@ crashing_at threads e = option_and_then (λ e. last_index (λ t. t.id == e.threa
 -- the threads of a process, with at most so many candidates each
 abbrev pub threads_in : Lists → ℕ → ContentsValue → ThreadsValue
 threads_in names scan c = record {
-  threads = all_threads names scan c (counting_exception c);
-  crashing = crashing_at (all_threads names scan c (counting_exception c)) (counting_exception c);
+  threads = all_threads names scan c (code_bits_in c) (counting_exception c);
+  crashing = crashing_at (all_threads names scan c (code_bits_in c) (counting_exception c))
+      (counting_exception c);
+  code_bits = code_bits_in c;
 }
 
 -- the thread that crashed, with its index
@@ -161,11 +169,13 @@ crashed_thread t = option_and_then
 -- ---- how they are walked
 
 -- the stack and the context by which the thread is walked that the list lacks
-abbrev pub extra_walked : ContentsValue → Option Exception → Option (StackValue × MinidumpContext)
-extra_walked c e = option_and_then (exception_walked c) (unlisted c e)
+abbrev pub extra_walked : ContentsValue → ℕ → Option Exception
+    → Option (StackValue × MinidumpContext)
+extra_walked c bits e = option_and_then (exception_walked c bits) (unlisted c e)
 
 -- those of the thread of an index, by the exception that counts: of the list, or the one after it
-abbrev pub walked_at : ContentsValue → ℕ → Option (StackValue × MinidumpContext)
-walked_at c index = option_map_or (thread_walked c (counting_exception c))
+abbrev pub walked_at : ContentsValue → ℕ → ℕ → Option (StackValue × MinidumpContext)
+walked_at c bits index = option_map_or (thread_walked c bits (counting_exception c))
     (slice_get (entries_in c.threads.threads) index)
-    (if index == length (entries_in c.threads.threads) then extra_walked c (counting_exception c) else None)
+    (if index == length (entries_in c.threads.threads) then extra_walked c bits (counting_exception c)
+    else None)

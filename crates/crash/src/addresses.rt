@@ -5,15 +5,14 @@ ghost use Rattle.minidump.specs.Below.Contexts.Context.{map_ok};
 ghost use Rattle.minidump.specs.Promise.{thread_list_stream, unloaded_module_list_stream};
 ghost use Rattle.crash.specs.Addresses.{facts_of, has_code, is_canonical, is_placed, memory_at};
 ghost use Rattle.crash.specs.Addresses.{stack_above, stack_at, state_of_number, unloaded_at};
-ghost use Rattle.crash.specs.Contents.{contents_of};
+ghost use Rattle.crash_streams.specs.Contents.{contents_of};
 ghost use Rattle.crash.specs.Contexts.{system_of};
 
-use crate::contents::Contents;
 use crate::last::last_index;
-use crate::modules::unloaded_entries;
 use crate::stacks::named_stack;
 use crate::threads::entries_of;
 use bitflags::Flags;
+use crash_streams::{Contents, unloaded_entries};
 use minidump::format::{MemoryProtection, MemoryState};
 use minidump::system_info::Cpu;
 use minidump::{Error, MinidumpThreadList, MinidumpUnloadedModuleList, Region, UnifiedMemoryInfo};

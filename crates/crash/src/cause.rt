@@ -5,18 +5,17 @@ ghost use Rattle.minidump.specs.Promise.{exception_stream, system_info_stream};
 ghost use Rattle.crash.specs.Cause.{address_at, address_unless, cause_in, cause_of};
 ghost use Rattle.crash.specs.Cause.{counted_exception, exception_in, exception_of, is_instruction};
 ghost use Rattle.crash.specs.Cause.{reason_in};
-ghost use Rattle.crash.specs.Contents.{contents_of};
+ghost use Rattle.crash_streams.specs.Contents.{contents_of};
 ghost use Rattle.crash.specs.Counting.{counted, counting, counting_exception};
 
 use crate::addresses::{AddressFacts, facts_of, has_code};
-use crate::contents::Contents;
 use crate::contexts::{ContextProblem, context_on, named_bytes, problem_in};
 use crate::frames::context_of;
 use crate::last::last_index;
 use crate::point::instruction_pointer_of;
-use crate::records::{
-    Access, Sender, access_of, description_of, lacks_address, may_be_instruction, parameters_of,
-    sender_of,
+use crash_streams::{
+    Access, Contents, Sender, access_of, description_of, lacks_address, may_be_instruction,
+    parameters_of, sender_of,
 };
 use minidump::{CodeNames, Error, MinidumpException, MinidumpSystemInfo};
 use std::alloc::Global;

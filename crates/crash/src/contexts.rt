@@ -2,12 +2,12 @@ ghost use Rattle.std.specs.Prelude.{◌≡◌, ◌≤◌, ◌<◌, IfOk, IfSome,
 ghost use Rattle.std.specs.Option.{option_copied, option_map};
 ghost use Rattle.minidump.specs.Promise.{exception_stream, system_info_stream};
 ghost use Rattle.minidump.specs.Thread.{accepted_context, thread_of};
-ghost use Rattle.crash.specs.Contents.{contents_of};
+ghost use Rattle.crash_streams.specs.Contents.{contents_of};
 ghost use Rattle.crash.specs.Contexts.{any_context, context_at, context_by, context_of, context_on};
 ghost use Rattle.crash.specs.Contexts.{found_in, has_general, lengths, named_bytes, old_on};
 ghost use Rattle.crash.specs.Contexts.{padded, problem_in, register_values, short_context, system_of};
 
-use crate::contents::Contents;
+use crash_streams::Contents;
 use minidump::format::{CONTEXT_ARM64_OLD, MINIDUMP_LOCATION_DESCRIPTOR};
 use minidump::system_info::Cpu;
 use minidump::{

@@ -5,21 +5,21 @@ ghost use Rattle.minidump.specs.Below.Format.Answer.{Gives};
 ghost use Rattle.minidump.specs.Dump.{dump_in};
 ghost use Rattle.minidump.specs.DumpValue.{dump_of};
 ghost use Rattle.crash.specs.Cause.{cause_of};
-ghost use Rattle.crash.specs.Contents.{contents_in, contents_of};
+ghost use Rattle.crash_streams.specs.Contents.{contents_in, contents_of};
 ghost use Rattle.crash.specs.Crash.{crash_by, crash_in, crash_of, damage_in, status_of, walked_in};
 ghost use Rattle.crash.specs.Frames.{walked_of};
-ghost use Rattle.crash.specs.Directory.{directory_of};
-ghost use Rattle.crash.specs.Process.{process_of};
+ghost use Rattle.crash_streams.specs.Directory.{directory_of};
+ghost use Rattle.crash_streams.specs.Process.{process_of};
 ghost use Rattle.crash.specs.Threads.{threads_of};
 
 use crate::cause::{CrashCause, cause_of};
-use crate::contents::{Contents, read_contents};
 use crate::damage::{Damage, counted_damage, damage_of};
-use crate::directory::{CrashDirectory, directory_of};
-use crate::modules::{CrashModules, modules_of};
 use crate::point::{CrashPoint, point_of};
-use crate::process::{CrashProcess, process_of};
 use crate::threads::{CrashThreads, threads_of, walked_at};
+use crash_streams::{
+    Contents, CrashDirectory, CrashModules, CrashProcess, directory_of, modules_of, process_of,
+    read_contents,
+};
 use minidump::{CodeNames, Error, Minidump, MinidumpContext};
 use stack_walk::Stack;
 use std::alloc::Global;
@@ -71,7 +71,7 @@ impl<'a> Crash<'a> {
     pub fn walked(&self, thread: usize) -> Option<(Stack<'_, 'a>, MinidumpContext)>
         ensures { option_map walked_of result ≡ walked_in (crash_of self.now) thread }
     {
-        walked_at(&self.contents, thread)
+        walked_at(&self.contents, self.threads.code_bits, thread)
     }
 
     /// Drops the crash. By this call a caller's crate need not prove how it is dropped.
@@ -107,7 +107,7 @@ fn crash_of_dump<'a>(
     let process = process_of(alloc, dump, &contents)?;
     let cause = cause_of(alloc, &contents, names)?;
     let threads = threads_of(alloc, &contents, names, scan)?;
-    let point = point_of(alloc, &contents, threads.crashing)?;
+    let point = point_of(alloc, &contents, threads.code_bits, threads.crashing)?;
     let modules = modules_of(alloc, file, dump, &contents)?;
     let damage = damage_in(alloc, &contents, &directory, &process, &cause, &threads)?;
     Ok(Crash {

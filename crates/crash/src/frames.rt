@@ -4,14 +4,16 @@ ghost use Rattle.minidump.specs.Promise.{exception_stream};
 ghost use Rattle.minidump.specs.Thread.{thread_of};
 ghost use Rattle.stack_walk.specs.Frames.{stack_of};
 ghost use Rattle.stack_walk.specs.Threads.{process_of};
-ghost use Rattle.crash.specs.Contents.{contents_of};
-ghost use Rattle.crash.specs.Frames.{context_of, crash_walk_of, exception_walked, frame_in};
-ghost use Rattle.crash.specs.Frames.{process_in, thread_walked, walk_from, walked_of};
+ghost use Rattle.crash_streams.specs.Contents.{contents_of};
+ghost use Rattle.crash.specs.Frames.{code_bits_in, context_of, crash_walk_of, exception_walked};
+ghost use Rattle.crash.specs.Frames.{frame_in, process_in, thread_walked, walk_from, walked_of};
 
-use crate::contents::Contents;
 use crate::contexts::{FoundContext, context_at, found_context};
+use crash_streams::Contents;
 use minidump::{Error, MinidumpContext, MinidumpException, MinidumpThread};
-use stack_walk::{FrameTrust, Process, Stack, StackFrame, WalkEnd, module_place, walk_stack};
+use stack_walk::{
+    FrameTrust, Process, Stack, StackFrame, WalkEnd, code_bits, module_place, walk_stack,
+};
 use std::alloc::{AllocError, Global};
 
 /// What is found in the stack of a thread.
@@ -50,13 +52,14 @@ pub struct CrashFrame {
 // information or a context.
 pub(crate) fn walked_thread<'l, 'a>(
     contents: &'l Contents<'a>,
+    code_bits: u32,
     exception: Option<&'l MinidumpException<'a>>,
     thread: &'l MinidumpThread<'a>,
 ) -> Option<(Stack<'l, 'a>, MinidumpContext)>
-    ensures { option_map walked_of result ≡ thread_walked (contents_of contents.now)
+    ensures { option_map walked_of result ≡ thread_walked (contents_of contents.now) code_bits
         (option_map exception_stream.value (option_copied exception.entry)) (thread_of thread.now) }
 {
-    let process = process_of(contents, exception)?;
+    let process = process_of(contents, code_bits, exception)?;
     let (_, found) = found_context(contents, exception, thread)?;
     let context = context_of(&found);
     Some((process.stack_of(thread, &context), context))
@@ -66,12 +69,13 @@ pub(crate) fn walked_thread<'l, 'a>(
 // lacks: the memory at the stack pointer of the exception's context.
 pub(crate) fn walked_exception<'l, 'a>(
     contents: &'l Contents<'a>,
+    code_bits: u32,
     exception: &'l MinidumpException<'a>,
 ) -> Option<(Stack<'l, 'a>, MinidumpContext)>
-    ensures { option_map walked_of result ≡ exception_walked (contents_of contents.now)
+    ensures { option_map walked_of result ≡ exception_walked (contents_of contents.now) code_bits
         (exception_stream.value exception.now) }
 {
-    let process = process_of(contents, Some(exception))?;
+    let process = process_of(contents, code_bits, Some(exception))?;
     let found = context_at(contents, exception)?;
     let context = context_of(&found);
     let memory = process
@@ -138,12 +142,24 @@ pub fn frame_in(stack: &Stack<'_, '_>, frame: &StackFrame) -> CrashFrame
     }
 }
 
-// Returns the process with such an exception, or `None` without system information.
+// Returns how many of the low bits of a return address are its address: 64 without system information.
+pub(crate) fn code_bits_of(contents: &Contents<'_>) -> u32
+    ensures { result ≡ code_bits_in (contents_of contents.now) }
+{
+    match &contents.system.system {
+        Ok(system) => code_bits(system.os, system.cpu, &contents.space.modules),
+        Err(_) => 64,
+    }
+}
+
+// Returns the process with such an exception, or `None` without system information. Of a return address
+// the low `code_bits` bits are its address.
 fn process_of<'l, 'a>(
     contents: &'l Contents<'a>,
+    code_bits: u32,
     exception: Option<&'l MinidumpException<'a>>,
 ) -> Option<Process<'l, 'a>>
-    ensures { option_map process_of result ≡ process_in (contents_of contents.now)
+    ensures { option_map process_of result ≡ process_in (contents_of contents.now) code_bits
         (option_map exception_stream.value (option_copied exception.entry)) }
 {
     let space = &contents.space;
@@ -153,6 +169,6 @@ fn process_of<'l, 'a>(
         modules: &space.modules,
         memory: &space.memory,
         infos: &space.infos,
-        code_bits: contents.code_bits,
+        code_bits,
     })
 }

@@ -1,16 +1,8 @@
 //! Laws of the definitions, as functions that do nothing: a clause of each is the law.
 ghost use Rattle.std.specs.Prelude.{Bool, List};
-ghost use Rattle.minidump.specs.Dump.{Dump};
-ghost use Rattle.crash.specs.Directory.{HasErrorOfStream};
 ghost use Rattle.crash.specs.Last.{IsLastOrNone, last_index};
 
-/// The entry of type ExceptionStream has the error for which [`minidump::Minidump::get_stream`]
-/// can't read the exception of a dump, though all exceptions are read at once.
-pub fn the_last_exception_has_the_error_of_the_stream()
-    ensures { (d : Dump) → HasErrorOfStream d }
-{
-    minidump::laws::last_exception_is_the_stream();
-}
+pub use crash_streams::laws::the_last_exception_has_the_error_of_the_stream;
 
 /// The definition of the last item that is chosen, by which the exception that counts, the thread that
 /// crashed, and the stack and the unloaded module of an address are defined, gives the one that is

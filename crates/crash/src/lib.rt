@@ -5,17 +5,13 @@
 //! tables can be made of this value alone, without looking up a name of a code or an address, and
 //! without reading a stream again.
 //!
-//! - [`Contents`] has the streams, each as the format has it: the stream, or the error for which
-//!   there is none. Of the exceptions it has those of all entries of the directory.
-//!   [`SpaceStreams`] chooses between the lists of memory, and between the lists of what is known of
-//!   its regions.
-//! - [`CrashDirectory`] has the entries that decide, each with the error of its stream.
-//! - [`CrashProcess`] has the process and the system on which it ran, [`CrashCause`] the exceptions,
-//!   with the text that LLDB writes in them, and the address of the crash, [`CrashThreads`] the
-//!   threads with their registers and frames, [`CrashPoint`] the code and the words of the stack where
-//!   the thread that crashed stands, what is known of the value of each of its registers as an
-//!   address, and which flags of its processor are set, [`CrashModules`] the modules, and their order
-//!   by address.
+//! - [`Contents`] has the streams, [`CrashDirectory`] the entries of the directory, [`CrashProcess`]
+//!   the process and the system on which it ran, and [`CrashModules`] the modules, as
+//!   [`crash_streams`] reads them. This crate passes on its types and the calls on them.
+//! - [`CrashCause`] has the exceptions, with the text that LLDB writes in them, and the address of the
+//!   crash, [`CrashThreads`] the threads with their registers and frames, [`CrashPoint`] the code and
+//!   the words of the stack where the thread that crashed stands, what is known of the value of each of
+//!   its registers as an address, and which flags of its processor are set.
 //! - [`Damage`] is something that is there and can't be read. [`status_of`] is the status with which
 //!   a dump ends a program.
 //!
@@ -50,45 +46,28 @@
 
 mod addresses;
 mod cause;
-mod contents;
 mod contexts;
 mod crash;
 mod damage;
-mod directory;
 mod frames;
-mod handle_kinds;
 mod last;
 pub mod laws;
-mod linux;
-mod modules;
 mod point;
-mod process;
-mod process_texts;
-mod records;
-mod release;
 mod stacks;
 mod threads;
-mod unreadable_modules;
 
 pub use addresses::{AddressFacts, AddressMemory, RegionState};
 pub use cause::{CrashCause, CrashException};
-pub use contents::{
-    Contents, MessageStreams, ProcessStreams, SpaceStreams, SystemStreams, ThreadStreams,
-    annotation_text, regions_of,
-};
 pub use contexts::{ContextOrigin, ContextProblem, CrashContext, ShortContext};
 pub use crash::{Crash, status_of};
+pub use crash_streams::{
+    Access, Comments, Contents, CrashDirectory, CrashModule, CrashModules, CrashProcess,
+    CrashSystem, HandleKind, LsbRelease, MessageStreams, ModulePart, ProcessLimit, ProcessStreams,
+    Sender, SignalCode, SpaceStreams, StreamEntry, SystemStreams, ThreadStreams, UnloadedModule,
+    UnreadableModule, annotation_text, file_name, is_missing, limits_of, regions_of, variables_of,
+};
 pub use damage::Damage;
-pub use directory::{CrashDirectory, StreamEntry, is_missing};
 pub use frames::{CrashFrame, CrashWalk, frame_in};
-pub use handle_kinds::HandleKind;
-pub use linux::{ProcessLimit, limits_of, variables_of};
-pub use modules::{CrashModule, CrashModules, UnloadedModule, file_name};
 pub use point::{CrashPoint, StackWord};
-pub use process::{CrashProcess, CrashSystem};
-pub use process_texts::Comments;
-pub use records::{Access, Sender, SignalCode};
-pub use release::LsbRelease;
 pub use stacks::StackRange;
 pub use threads::{CrashThread, CrashThreads};
-pub use unreadable_modules::{ModulePart, UnreadableModule};

@@ -3,15 +3,15 @@ ghost use Rattle.std.specs.Prelude.{◌≡◌, IfOk, map};
 ghost use Rattle.std.specs.Option.{option_map};
 ghost use Rattle.minidump.specs.Below.MemoryLists.Unified.{unified_list};
 ghost use Rattle.stack_walk.specs.Frames.{instruction_pointer_in, stack_of};
-ghost use Rattle.crash.specs.Contents.{contents_of};
+ghost use Rattle.crash_streams.specs.Contents.{contents_of};
 ghost use Rattle.crash.specs.Point.{arm64_flags, arm_flags, code_at, flags_of, names_in};
 ghost use Rattle.crash.specs.Point.{point_in, point_of, register_facts, set_flags, word_at};
 ghost use Rattle.crash.specs.Point.{words_from, x86_flags};
 
 use crate::addresses::{AddressFacts, facts_of};
-use crate::contents::Contents;
 use crate::contexts::register_values;
 use crate::threads::walked_at;
+use crash_streams::Contents;
 use minidump::{MinidumpContext, MinidumpRawContext, UnifiedMemoryList};
 use stack_walk::{Stack, is_address, module_place};
 use std::alloc::{AllocError, Global};
@@ -53,19 +53,21 @@ pub struct StackWord {
     pub module: Option<(usize, u64)>,
 }
 
-// Returns where the thread of an index stands, if it has a walk.
+// Returns where the thread of an index stands, if it has a walk. Of a return address the low
+// `code_bits` bits are its address.
 pub(crate) fn point_of<'a>(
     alloc: Global,
     contents: &Contents<'a>,
+    code_bits: u32,
     thread: Option<usize>,
 ) -> Result<Option<CrashPoint<'a>>, AllocError>
     ensures { IfOk result (λ point. option_map point_of point
-        ≡ point_in (contents_of contents.now) thread) }
+        ≡ point_in (contents_of contents.now) code_bits thread) }
 {
     let Some(thread) = thread else {
         return Ok(None);
     };
-    let Some((stack, context)) = walked_at(contents, thread) else {
+    let Some((stack, context)) = walked_at(contents, code_bits, thread) else {
         return Ok(None);
     };
     let instruction = instruction_pointer_of(&context);

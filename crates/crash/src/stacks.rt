@@ -1,9 +1,9 @@
 ghost use Rattle.std.specs.Prelude.{◌≡◌};
 ghost use Rattle.minidump.specs.Thread.{thread_of};
-ghost use Rattle.crash.specs.Contents.{contents_of};
+ghost use Rattle.crash_streams.specs.Contents.{contents_of};
 ghost use Rattle.crash.specs.Stacks.{is_outside, named_stack, stack_memory};
 
-use crate::contents::Contents;
+use crash_streams::Contents;
 use minidump::MinidumpThread;
 use minidump::format::MINIDUMP_MEMORY_DESCRIPTOR;
 

@@ -3,22 +3,21 @@ ghost use Rattle.std.specs.Option.{option_copied, option_map};
 ghost use Rattle.minidump.specs.Below.Contexts.Context.{map_ok};
 ghost use Rattle.minidump.specs.Promise.{exception_stream, thread_list_stream, thread_names_stream};
 ghost use Rattle.minidump.specs.Thread.{thread_of};
-ghost use Rattle.crash.specs.Contents.{contents_of};
+ghost use Rattle.crash_streams.specs.Contents.{contents_of};
 ghost use Rattle.crash.specs.Frames.{walked_of};
 ghost use Rattle.crash.specs.Threads.{all_threads, crashed_thread, crashing_at, entries_in, extra_in};
 ghost use Rattle.crash.specs.Threads.{extra_walked, last_error_in, name_in, short_context, thread_in};
 ghost use Rattle.crash.specs.Threads.{thread_value, threads_in, threads_of, unlisted, walked_at};
 
 use crate::cause::counting_exception;
-use crate::contents::Contents;
 use crate::contexts::{
     ContextOrigin, ContextProblem, CrashContext, ShortContext, context_at, found_context,
     named_bytes, problem_in, registers_of,
 };
-use crate::frames::{CrashWalk, walk_of, walked_exception, walked_thread};
+use crate::frames::{CrashWalk, code_bits_of, walk_of, walked_exception, walked_thread};
 use crate::last::last_index;
-use crate::process::copy;
 use crate::stacks::{StackRange, is_outside, named_stack, stack_memory};
+use crash_streams::{Contents, copy};
 use minidump::system_info::Os;
 use minidump::{
     CodeNames, Error, MinidumpContext, MinidumpException, MinidumpThread, MinidumpThreadList,
@@ -36,6 +35,9 @@ pub struct CrashThreads {
     /// The index in `threads` of the thread that crashed: the last of the id of the exception that
     /// counts, or `None` if none counts.
     pub crashing: Option<usize>,
+    /// How many of the low bits of a return address are its address, as [`stack_walk::code_bits`] returns
+    /// it for the system and the modules; 64 without system information. All walks have it.
+    pub code_bits: u32,
 }
 
 impl CrashThreads {
@@ -101,9 +103,14 @@ pub(crate) fn threads_of(
     ensures memory { IsOkUnless result Error.OutOfMemory }
 {
     let exception = counting_exception(contents);
-    let threads = all_threads(alloc, contents, names, scan, exception)?;
+    let code_bits = code_bits_of(contents);
+    let threads = all_threads(alloc, contents, names, scan, code_bits, exception)?;
     let crashing = crashing_at(threads.as_slice(), exception);
-    Ok(CrashThreads { threads, crashing })
+    Ok(CrashThreads {
+        threads,
+        crashing,
+        code_bits,
+    })
 }
 
 // Returns the index of the thread that crashed: the last of the exception's id.
@@ -121,20 +128,21 @@ fn all_threads<'a>(
     contents: &Contents<'a>,
     names: &CodeNames<'_>,
     scan: usize,
+    code_bits: u32,
     exception: Option<&MinidumpException<'a>>,
 ) -> Result<Vec<CrashThread>, Error>
     ensures threads { IfOk result (λ threads. map thread_value threads.items
-        ≡ all_threads names.now scan (contents_of contents.now)
+        ≡ all_threads names.now scan (contents_of contents.now) code_bits
         (option_map exception_stream.value (option_copied exception.entry))) }
     ensures memory { IsOkUnless result Error.OutOfMemory }
 {
     let entries = entries_of(&contents.threads.threads);
     let mut threads = Vec::new(alloc);
     for item in entries {
-        threads.push(thread_in(alloc, contents, names, scan, exception, item)?)?;
+        threads.push(thread_in(alloc, contents, names, scan, code_bits, exception, item)?)?;
     }
     if let Some(exception) = unlisted(contents, exception) {
-        threads.push(extra(alloc, contents, exception, scan)?)?;
+        threads.push(extra(alloc, contents, exception, scan, code_bits)?)?;
     }
     Ok(threads)
 }
@@ -145,11 +153,12 @@ fn thread_in<'a>(
     contents: &Contents<'a>,
     names: &CodeNames<'_>,
     scan: usize,
+    code_bits: u32,
     exception: Option<&MinidumpException<'a>>,
     item: &MinidumpThread<'a>,
 ) -> Result<CrashThread, Error>
     ensures thread { IfOk result (λ thread. thread_value thread
-        ≡ thread_in names.now scan (contents_of contents.now)
+        ≡ thread_in names.now scan (contents_of contents.now) code_bits
         (option_map exception_stream.value (option_copied exception.entry)) (thread_of item.now)) }
     ensures memory { IsOkUnless result Error.OutOfMemory }
 {
@@ -164,7 +173,11 @@ fn thread_in<'a>(
         stack: named_stack(&item.raw.stack),
         stack_memory: stack_memory(contents, item),
         is_stack_outside: is_outside(item),
-        walk: walk_of(alloc, walked_thread(contents, exception, item), scan)?,
+        walk: walk_of(
+            alloc,
+            walked_thread(contents, code_bits, exception, item),
+            scan,
+        )?,
         last_error: last_error_of(alloc, contents, names, item)?,
     })
 }
@@ -191,9 +204,10 @@ fn extra<'l, 'a>(
     contents: &'l Contents<'a>,
     exception: &'l MinidumpException<'a>,
     scan: usize,
+    code_bits: u32,
 ) -> Result<CrashThread, Error>
     ensures thread { IfOk result (λ t. thread_value t
-        ≡ extra_in scan (contents_of contents.now) (exception_stream.value exception.now)) }
+        ≡ extra_in scan (contents_of contents.now) code_bits (exception_stream.value exception.now)) }
     ensures memory { IsOkUnless result Error.OutOfMemory }
 {
     let id = exception.thread_id;
@@ -210,25 +224,31 @@ fn extra<'l, 'a>(
         stack: None,
         stack_memory: None,
         is_stack_outside: false,
-        walk: walk_of(alloc, walked_exception(contents, exception), scan)?,
+        walk: walk_of(
+            alloc,
+            walked_exception(contents, code_bits, exception),
+            scan,
+        )?,
         last_error: None,
     })
 }
 
 // ---- how they are walked
 
-// Returns the stack and the context by which the thread of an index is walked.
+// Returns the stack and the context by which the thread of an index is walked. Of a return address the
+// low `code_bits` bits are its address.
 pub(crate) fn walked_at<'l, 'a>(
     contents: &'l Contents<'a>,
+    code_bits: u32,
     index: usize,
 ) -> Option<(Stack<'l, 'a>, MinidumpContext)>
-    ensures { option_map walked_of result ≡ walked_at (contents_of contents.now) index }
+    ensures { option_map walked_of result ≡ walked_at (contents_of contents.now) code_bits index }
 {
     let exception = counting_exception(contents);
     let threads = entries_of(&contents.threads.threads);
     match threads.get(index) {
-        Some(thread) => walked_thread(contents, exception, thread),
-        None if index == threads.len() => extra_walked(contents, exception),
+        Some(thread) => walked_thread(contents, code_bits, exception, thread),
+        None if index == threads.len() => extra_walked(contents, code_bits, exception),
         None => None,
     }
 }
@@ -237,12 +257,13 @@ pub(crate) fn walked_at<'l, 'a>(
 // it.
 fn extra_walked<'l, 'a>(
     contents: &'l Contents<'a>,
+    code_bits: u32,
     exception: Option<&'l MinidumpException<'a>>,
 ) -> Option<(Stack<'l, 'a>, MinidumpContext)>
-    ensures { option_map walked_of result ≡ extra_walked (contents_of contents.now)
+    ensures { option_map walked_of result ≡ extra_walked (contents_of contents.now) code_bits
         (option_map exception_stream.value (option_copied exception.entry)) }
 {
-    walked_exception(contents, unlisted(contents, exception)?)
+    walked_exception(contents, code_bits, unlisted(contents, exception)?)
 }
 
 // ---- what is known of a thread

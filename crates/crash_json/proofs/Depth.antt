@@ -16,7 +16,7 @@ use Rattle.crash.specs.declared.damage.Damage.{Damage}
 use Rattle.crash.specs.declared.damage.Damage.TheVariants.{Entries, Exception, ExceptionContext, Modules, Parameters, Records, Regions, Stack, Stream, Texts, ThreadContext}
 use Rattle.crash.specs.Cause.{ExceptionValue}
 use Rattle.crash.specs.Crash.{CrashValue}
-use Rattle.crash.specs.Modules.{LoadedValue}
+use Rattle.crash_streams.specs.Modules.{LoadedValue}
 use Rattle.crash.specs.Point.{PointValue}
 use Rattle.crash.specs.Threads.{ThreadValue, crashed_thread}
 use Rattle.crash_symbols.specs.Names.{NamedFrameValue}

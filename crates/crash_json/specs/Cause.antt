@@ -13,12 +13,12 @@ use Rattle.crash.specs.declared.addresses.RegionState.{RegionState}
 use Rattle.crash.specs.declared.addresses.RegionState.TheVariants.{Committed, Free, Reserved}
 use Rattle.crash.specs.declared.contexts.ContextProblem.{ContextProblem}
 use Rattle.crash.specs.declared.contexts.ContextProblem.TheVariants.{NoSystem, NotAccepted, Outside}
-use Rattle.crash.specs.declared.records.Access.{Access}
-use Rattle.crash.specs.declared.records.Access.TheVariants.{Execute, Read, Write}
-use Rattle.crash.specs.declared.records.Sender.{Sender}
+use Rattle.crash_streams.specs.declared.records.Access.{Access}
+use Rattle.crash_streams.specs.declared.records.Access.TheVariants.{Execute, Read, Write}
+use Rattle.crash_streams.specs.declared.records.Sender.{Sender}
 use Rattle.crash.specs.Cause.{ExceptionValue, counted_exception}
 use Rattle.crash.specs.Crash.{CrashValue}
-use Rattle.crash.specs.Records.{signal_code_name}
+use Rattle.crash_streams.specs.Records.{signal_code_name}
 use Rattle.crash_json.specs.Tree.{array_of, count, hex_string, object_of, or_null}
 
 -- ---- the crash

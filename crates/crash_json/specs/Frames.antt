@@ -9,7 +9,7 @@ use Rattle.stack_walk.specs.declared.frame.FrameTrust.TheVariants.{Context, Cfi,
 use Rattle.stack_walk.specs.declared.frame.FrameTrust.TheVariants.{Link}
 use Rattle.crash.specs.declared.frames.CrashFrame.{CrashFrame}
 use Rattle.crash.specs.Contexts.{ContextValue}
-use Rattle.crash.specs.Modules.{LoadedValue}
+use Rattle.crash_streams.specs.Modules.{LoadedValue}
 use Rattle.crash.specs.Threads.{ThreadValue}
 use Rattle.crash_symbols.specs.Names.{CallValue, FunctionName, NamedFrameValue, SourceValue}
 use Rattle.crash_symbols.specs.Shown.{SymbolizedValue}

@@ -1,10 +1,10 @@
 -- Modules as JSON, loaded and unloaded.
 use Rattle.std.specs.Prelude.{ℕ, ◌++◌, Bool, false, true, List, [], ◌∷◌, codes, Option, Some, None}
 use Rattle.json.specs.Json.{Json, boolean, string}
-use Rattle.crash.specs.declared.unreadable_modules.ModulePart.{ModulePart}
-use Rattle.crash.specs.declared.unreadable_modules.ModulePart.TheVariants.{CodeView, Name}
-use Rattle.crash.specs.declared.unreadable_modules.UnreadableModule.{UnreadableModule}
-use Rattle.crash.specs.Modules.{LoadedValue, UnloadedModuleValue}
+use Rattle.crash_streams.specs.declared.unreadable_modules.ModulePart.{ModulePart}
+use Rattle.crash_streams.specs.declared.unreadable_modules.ModulePart.TheVariants.{CodeView, Name}
+use Rattle.crash_streams.specs.declared.unreadable_modules.UnreadableModule.{UnreadableModule}
+use Rattle.crash_streams.specs.Modules.{LoadedValue, UnloadedModuleValue}
 use Rattle.crash_symbols.specs.declared.symbols.SymbolState.{SymbolState}
 use Rattle.crash_symbols.specs.declared.symbols.SymbolState.TheVariants.{Corrupt, Loaded, Missing}
 use Rattle.crash_symbols.specs.declared.symbols.SymbolState.TheVariants.{OutOfMemory, Unwanted}

@@ -13,7 +13,7 @@ use Rattle.minidump.specs.Below.Records.Handles.{Handle}
 use Rattle.minidump.specs.Below.Records.MacCrashInfo.{MacRecords}
 use Rattle.minidump.specs.Below.Records.Record as mac
 use Rattle.minidump.specs.Below.Records.Record.{MacRecord, text_of}
-use Rattle.crash.specs.HandleKinds.{KindValue}
+use Rattle.crash_streams.specs.HandleKinds.{KindValue}
 use Rattle.crash_json.specs.Tree.{array_of, count, hex_string, object_of, or_null}
 
 -- ---- handles

@@ -7,9 +7,9 @@ use Rattle.minidump.specs.declared.Error.{Error}
 use Rattle.minidump.specs.Below.Records.Pairs.{pairs_of}
 use Rattle.minidump.specs.Below.System.Cpu.{cpu_name}
 use Rattle.minidump.specs.Below.System.Os.{os_long_name}
-use Rattle.crash.specs.Linux.{LimitValue, limits_in}
-use Rattle.crash.specs.Process.{SystemValue}
-use Rattle.crash.specs.Release.{ReleaseValue}
+use Rattle.crash_streams.specs.Linux.{LimitValue, limits_in}
+use Rattle.crash_streams.specs.Process.{SystemValue}
+use Rattle.crash_streams.specs.Release.{ReleaseValue}
 use Rattle.crash_json.specs.Tree.{array_of, count, object_of, or_null}
 use Rattle.crash_json.specs.Crashpad.{entry_json}
 

@@ -7,7 +7,7 @@ ghost use Rattle.minidump.specs.Promise.{assertion_stream};
 ghost use Rattle.json.specs.Json.{string};
 ghost use Rattle.crash.specs.Cause.{cause_of, counted_exception, exception_of};
 ghost use Rattle.crash.specs.Crash.{crash_of};
-ghost use Rattle.crash.specs.Records.{signal_code_name};
+ghost use Rattle.crash_streams.specs.Records.{signal_code_name};
 ghost use Rattle.crash_json.specs.Cause.{access_name, address_json, address_members};
 ghost use Rattle.crash_json.specs.Cause.{crash_info_json, exception_json, expression_in, memory_json};
 ghost use Rattle.crash_json.specs.Cause.{place_members, problem_name, sender_json, state_name};

@@ -2,7 +2,7 @@
 ghost use Rattle.std.specs.Prelude.{◌≡◌, map};
 ghost use Rattle.std.specs.Option.{option_copied, option_map};
 ghost use Rattle.json.specs.Json.{string};
-ghost use Rattle.crash.specs.Modules.{loaded_of, unloaded_module_of};
+ghost use Rattle.crash_streams.specs.Modules.{loaded_of, unloaded_module_of};
 ghost use Rattle.crash_symbols.specs.Shown.{symbolized_of};
 ghost use Rattle.crash_json.specs.Tree.{Adds};
 ghost use Rattle.crash_json.specs.ReportValue.{report_of};

@@ -10,7 +10,7 @@ ghost use Rattle.minidump.specs.Promise.{assertion_stream, handle_data_stream};
 ghost use Rattle.minidump.specs.Promise.{mac_bootargs_stream, mac_crash_info_stream};
 ghost use Rattle.minidump.specs.Promise.{soft_errors_stream};
 ghost use Rattle.minidump.specs.Below.Records.Handles.{handle_of};
-ghost use Rattle.crash.specs.HandleKinds.{kind_of};
+ghost use Rattle.crash_streams.specs.HandleKinds.{kind_of};
 ghost use Rattle.crash_json.specs.Tree.{or_null};
 ghost use Rattle.crash_json.specs.Records.{assertion_json, assertion_kind, boot_args_json, handle_json};
 ghost use Rattle.crash_json.specs.Records.{handles_json, kind_json, mac_crash_json};

@@ -2,7 +2,7 @@
 ghost use Rattle.std.specs.Prelude.{◌≡◌, ◌++◌, [], IfOk, OnOk, codes, flat_map, map, string_bytes};
 ghost use Rattle.std.specs.List.{cons_option};
 ghost use Rattle.std.specs.Option.{option_copied, option_map};
-ghost use Rattle.crash.specs.Modules.{loaded_of};
+ghost use Rattle.crash_streams.specs.Modules.{loaded_of};
 ghost use Rattle.crash_symbols.specs.Shown.{shown_frame_of};
 ghost use Rattle.crash_json.specs.ReportValue.{report_of};
 ghost use Rattle.crash_json.specs.Signature.{crashed_frames, joined, mark_of, marks_in};

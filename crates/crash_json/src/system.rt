@@ -5,9 +5,9 @@ ghost use Rattle.minidump.specs.Below.Contexts.Context.{map_ok};
 ghost use Rattle.minidump.specs.Below.System.Cpu.{cpu_name};
 ghost use Rattle.minidump.specs.Below.System.Os.{os_long_name};
 ghost use Rattle.minidump.specs.Promise.{linux_environ_stream, linux_proc_limits_stream};
-ghost use Rattle.crash.specs.Linux.{limit_of};
-ghost use Rattle.crash.specs.Process.{system_of};
-ghost use Rattle.crash.specs.Release.{release_of};
+ghost use Rattle.crash_streams.specs.Linux.{limit_of};
+ghost use Rattle.crash_streams.specs.Process.{system_of};
+ghost use Rattle.crash_streams.specs.Release.{release_of};
 ghost use Rattle.crash_json.specs.System.{environment_json, limit_json, limits_json, release_json};
 ghost use Rattle.crash_json.specs.System.{system_json, variable_json, with_build};
 

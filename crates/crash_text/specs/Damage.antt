@@ -2,27 +2,16 @@
 use Rattle.std.specs.Prelude.{ℕ, ◌++◌, List, [], ◌∷◌, map, Option, Some, None, codes}
 use Rattle.std.specs.Fmt.{decimal}
 use Rattle.std.specs.List.{concat}
-use Rattle.minidump.specs.declared.format.MINIDUMP_STREAM_TYPE.{MINIDUMP_STREAM_TYPE}
 use Rattle.minidump.specs.Below.Bytes.Piece.{hex}
-use Rattle.minidump.specs.Below.Format.StreamType.{stream_type_of, type_name}
 use Rattle.crash.specs.declared.damage.Damage.{Damage}
 use Rattle.crash.specs.declared.damage.Damage.TheVariants.{Entries, Exception, ExceptionContext, Modules}
 use Rattle.crash.specs.declared.damage.Damage.TheVariants.{Parameters, Records, Regions, Stack, Stream}
 use Rattle.crash.specs.declared.damage.Damage.TheVariants.{Texts, ThreadContext}
-use Rattle.crash.specs.declared.unreadable_modules.ModulePart.{ModulePart}
-use Rattle.crash.specs.declared.unreadable_modules.ModulePart.TheVariants.{CodeView, Name}
-use Rattle.crash.specs.declared.unreadable_modules.UnreadableModule.{UnreadableModule}
+use Rattle.crash_streams.specs.declared.unreadable_modules.ModulePart.{ModulePart}
+use Rattle.crash_streams.specs.declared.unreadable_modules.ModulePart.TheVariants.{CodeView, Name}
+use Rattle.crash_streams.specs.declared.unreadable_modules.UnreadableModule.{UnreadableModule}
 use Rattle.crash.specs.Crash.{CrashValue}
-use Rattle.crash_text.specs.Words.{error_words, id_words}
-
--- the name of a type of stream, or `stream` and its number where it has none
-abbrev pub name_of_type : ℕ → Option MINIDUMP_STREAM_TYPE → List ℕ
-name_of_type number (Some known_type) = type_name known_type
-name_of_type number None = concat (codes "stream " ∷ hex number ∷ [])
-
--- the words for the stream of a type
-abbrev pub stream_text : ℕ → List ℕ
-stream_text number = name_of_type number (stream_type_of number)
+use Rattle.crash_lines.specs.Words.{error_words, id_words, stream_text}
 
 -- the line of something that can't be read, or of bytes that are not in the file
 unfoldable pub damage_row : Damage → List ℕ

@@ -4,7 +4,6 @@ use Rattle.std.specs.Prelude.{codes, if◌then◌else◌, take, unwrap_or, Optio
 use Rattle.std.specs.Fmt.{decimal}
 use Rattle.std.specs.List.{concat, enumerate_from, flat_map}
 use Rattle.std.specs.Option.{option_map}
-use Rattle.std.specs.Str.Lossy.{utf8_lossy}
 use Rattle.stack_walk.specs.declared.end.WalkEnd.TheVariants.{BelowStackPointer, NoCode}
 use Rattle.stack_walk.specs.declared.end.WalkEnd.TheVariants.{NoFramePointer, NoMemory, NoRecord}
 use Rattle.stack_walk.specs.declared.end.WalkEnd.TheVariants.{UnknownWidth, ZeroFramePointer}
@@ -17,16 +16,16 @@ use Rattle.symbol_walk.specs.declared.walk.SymbolWalkEnd.{SymbolWalkEnd}
 use Rattle.symbol_walk.specs.declared.walk.SymbolWalkEnd.TheVariants.{Walk, NoReturnRule}
 use Rattle.symbol_walk.specs.declared.walk.SymbolWalkEnd.TheVariants.{ZeroReturnAddress}
 use Rattle.crash.specs.declared.frames.CrashFrame.{CrashFrame}
-use Rattle.crash.specs.Modules.{LoadedValue}
+use Rattle.crash_streams.specs.Modules.{LoadedValue}
 use Rattle.crash_symbols.specs.Backtraces.{BacktraceValue}
 use Rattle.crash_symbols.specs.NameParts.{source_of}
 use Rattle.crash_symbols.specs.Names.{CallValue, NamedFrameValue, SourceValue}
 use Rattle.crash_symbols.specs.Shown.{all_frames, first_frames}
 use Rattle.crash_text.specs.declared.frames.FrameEntry.{FrameEntry}
 use Rattle.crash_text.specs.declared.limits.TextLimits.{TextLimits}
-use Rattle.crash_text.specs.Lines.{table}
+use Rattle.crash_lines.specs.Lines.{table}
 use Rattle.crash_text.specs.Page.{PageValue}
-use Rattle.crash_text.specs.Words.{count_if, hex_if, lossy_if, place_text}
+use Rattle.crash_lines.specs.Words.{count_if, hex_if, line_text, lossy_if, place_text}
 
 -- ---- a frame, and the inlined calls there
 
@@ -87,12 +86,6 @@ found_text false Cfi = codes ", call frame information"
 found_text false FramePointer = codes ", frame pointer"
 found_text false Scan = codes ", scan"
 found_text false Link = codes ", link register"
-
--- the words for a line of a source file, where the file is known
-abbrev pub line_text : Option (List ℕ) → ℕ → List ℕ
-line_text (Some file) line =
-    concat (codes " at " ∷ utf8_lossy file ∷ codes ":" ∷ decimal line ∷ [])
-line_text None line = []
 
 -- the words for a source line
 abbrev pub source_text : Option SourceValue → List ℕ

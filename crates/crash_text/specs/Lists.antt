@@ -10,16 +10,17 @@ use Rattle.minidump.specs.Below.Modules.UnloadedModule.{UnloadedValue}
 use Rattle.minidump.specs.Below.Records.Descriptor.{handle}
 use Rattle.minidump.specs.Below.Records.Handles.{Handle}
 use Rattle.minidump.specs.Below.Records.Pairs.{pairs_of}
-use Rattle.crash.specs.declared.directory.StreamEntry.{StreamEntry}
-use Rattle.crash.specs.HandleKinds.{KindValue}
-use Rattle.crash.specs.Linux.{LimitValue, limits_in}
-use Rattle.crash.specs.Modules.{UnloadedModuleValue}
+use Rattle.crash_streams.specs.declared.directory.StreamEntry.{StreamEntry}
+use Rattle.crash_streams.specs.HandleKinds.{KindValue}
+use Rattle.crash_streams.specs.Linux.{LimitValue, limits_in}
+use Rattle.crash_streams.specs.Modules.{UnloadedModuleValue}
 use Rattle.crash_text.specs.declared.limits.TextLimits.{TextLimits}
-use Rattle.crash_text.specs.Damage.{stream_text}
-use Rattle.crash_text.specs.Lines.{if_some}
-use Rattle.crash_text.specs.Modules.{all_modules, key_text}
+use Rattle.crash_lines.specs.Words.{stream_text}
+use Rattle.crash_lines.specs.Lines.{if_some}
+use Rattle.crash_text.specs.Modules.{all_modules}
+use Rattle.crash_lines.specs.Words.{key_text}
 use Rattle.crash_text.specs.Page.{PageValue}
-use Rattle.crash_text.specs.Words.{count_row, error_words, hex_if, hex_or, lossy_if, text_if}
+use Rattle.crash_lines.specs.Words.{count_row, error_words, hex_if, hex_or, lossy_if, text_if}
 
 -- the number of items, and the lines of them if they are asked for
 abbrev pub list_lines : {X : Type 0} → Bool → List ℕ → (X → List ℕ) → List X → List (List ℕ)

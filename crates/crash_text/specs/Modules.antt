@@ -1,6 +1,6 @@
 -- The lines of modules: how many there are, and those that have the address of the crash or a
 -- printed frame, in the order of their addresses, with what a symbol server is asked by.
-use Rattle.std.specs.Prelude.{ℕ, ◌≡◌, ◌<◌, ◌==◌, ◌||◌, Bool, false, List, [], ◌∷◌, bytes_eq}
+use Rattle.std.specs.Prelude.{ℕ, ◌≡◌, ◌<◌, ◌==◌, ◌||◌, Bool, false, List, [], ◌∷◌}
 use Rattle.std.specs.Prelude.{get_or, length, Option, Some, None, codes, if◌then◌else◌, slice_get}
 use Rattle.std.specs.List.{concat, flat_map, list_any}
 use Rattle.std.specs.Option.{option_and_then}
@@ -8,7 +8,7 @@ use Rattle.minidump.specs.declared.Error.{Error}
 use Rattle.minidump.specs.Below.Bytes.Piece.{hex}
 use Rattle.crash.specs.declared.addresses.AddressFacts.{AddressFacts}
 use Rattle.crash.specs.declared.frames.CrashFrame.{CrashFrame}
-use Rattle.crash.specs.Modules.{LoadedValue}
+use Rattle.crash_streams.specs.Modules.{LoadedValue}
 use Rattle.crash_symbols.specs.declared.symbols.SymbolState.{SymbolState}
 use Rattle.crash_symbols.specs.declared.symbols.SymbolState.TheVariants.{Corrupt, Loaded, Missing}
 use Rattle.crash_symbols.specs.declared.symbols.SymbolState.TheVariants.{OutOfMemory, Unwanted}
@@ -17,21 +17,9 @@ use Rattle.crash_symbols.specs.Symbols.{state_at}
 use Rattle.crash_text.specs.declared.limits.TextLimits.{TextLimits}
 use Rattle.crash_text.specs.Page.{PageValue}
 use Rattle.crash_text.specs.Threads.{frames_in}
-use Rattle.crash_text.specs.Words.{count_row, hex_if, if_missing}
+use Rattle.crash_lines.specs.Words.{count_row, hex_if, if_missing, key_text, version_text}
 
 -- ---- a module
-
--- the words for the name of a file and an identifier, where there are both
-abbrev pub key_text : List ℕ → Option (List ℕ) → Option (List ℕ) → List ℕ
-key_text label (Some file) (Some id) = concat (label ∷ file ∷ codes "/" ∷ id ∷ [])
-key_text label (Some file) None = []
-key_text label None id = []
-
--- the words for a version, where there is one; 0.0.0.0 says nothing
-abbrev pub version_text : Option (List ℕ) → List ℕ
-version_text (Some version) = if bytes_eq version (codes "0.0.0.0") then []
-    else concat (codes ", version " ∷ version ∷ [])
-version_text None = []
 
 -- all modules are asked for
 abbrev pub all_modules : TextLimits → Bool

@@ -5,13 +5,13 @@ use Rattle.crash.specs.Crash.{CrashValue}
 use Rattle.crash_symbols.specs.Shown.{SymbolizedValue}
 use Rattle.crash_text.specs.declared.limits.TextLimits.{TextLimits}
 use Rattle.crash_text.specs.Damage.{damage_lines}
-use Rattle.crash_text.specs.Exceptions.{crash_lines, none_lines}
-use Rattle.crash_text.specs.Lines.{line_of}
+use Rattle.crash_lines.specs.Exceptions.{crash_lines, none_lines}
+use Rattle.crash_lines.specs.Lines.{line_of}
 use Rattle.crash_text.specs.Lists.{lists_lines}
-use Rattle.crash_text.specs.Messages.{messages_lines}
+use Rattle.crash_lines.specs.Messages.{messages_lines}
 use Rattle.crash_text.specs.Modules.{modules_lines}
 use Rattle.crash_text.specs.Page.{PageValue}
-use Rattle.crash_text.specs.System.{head_lines}
+use Rattle.crash_lines.specs.System.{head_lines}
 use Rattle.crash_text.specs.Threads.{crashed_lines, each_other}
 
 -- that there is no exception, where there is none, and then the system, the process, the crash, and

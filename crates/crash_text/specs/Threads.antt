@@ -7,16 +7,16 @@ use Rattle.crash.specs.declared.contexts.ContextProblem.{ContextProblem}
 use Rattle.crash.specs.declared.contexts.ContextProblem.TheVariants.{NoSystem, NotAccepted, Outside}
 use Rattle.crash.specs.declared.frames.CrashFrame.{CrashFrame}
 use Rattle.crash.specs.declared.stacks.StackRange.{StackRange}
-use Rattle.crash.specs.Process.{SystemValue}
+use Rattle.crash_streams.specs.Process.{SystemValue}
 use Rattle.crash.specs.Threads.{ThreadValue, crashed_thread, short_context}
 use Rattle.crash_symbols.specs.Backtraces.{BacktraceValue}
 use Rattle.crash_symbols.specs.Shown.{shown_in}
 use Rattle.crash_text.specs.declared.limits.TextLimits.{TextLimits}
 use Rattle.crash_text.specs.Frames.{printed_frames, walk_lines}
-use Rattle.crash_text.specs.Lines.{if_some, table}
+use Rattle.crash_lines.specs.Lines.{if_some, table}
 use Rattle.crash_text.specs.Page.{PageValue}
-use Rattle.crash_text.specs.Registers.{short_if}
-use Rattle.crash_text.specs.Words.{id_words, missing_lines, text_if, words_if}
+use Rattle.crash_lines.specs.Registers.{short_if}
+use Rattle.crash_lines.specs.Words.{id_words, missing_lines, text_if, words_if}
 
 -- ---- a thread
 

@@ -2,16 +2,16 @@ ghost use Rattle.std.specs.Prelude.{◌≡◌};
 ghost use Rattle.std.specs.List.{flat_map};
 ghost use Rattle.crash.specs.Crash.{crash_of};
 ghost use Rattle.crash_text.specs.Damage.{damage_lines, damage_row, part_words};
-ghost use Rattle.crash_text.specs.Lines.{Adds};
-ghost use Rattle.crash_text.specs.Parts.{part_text};
+ghost use Rattle.crash_lines.specs.Lines.{Adds};
+ghost use Rattle.crash_lines.specs.Parts.{part_text};
 
-use crate::lines::{Added, Line, push_each, push_row};
-use crate::parts::Part;
-use crate::parts::Part::{Decimal, Failed, Hex, Id, Stream, Words};
+use crate::lines::{Line, push_each};
 use crash::{Crash, Damage, ModulePart, UnreadableModule};
+use crash_lines::Part::{Decimal, Failed, Hex, Id, Stream, Words};
+use crash_lines::{Added, Part, push_row};
 
 // Appends the lines of what is there and can't be read.
-#[tactic(auto, using(crate::proofs::LineLemmas::values))]
+#[tactic(auto, using(crash_lines::proofs::LineLemmas::values))]
 pub(crate) fn push_damage(out: &mut String, crash: &Crash<'_>) -> Added
     ensures { Adds out.old out.new (damage_lines (crash_of crash.now)) result }
 {
@@ -84,7 +84,7 @@ fn part_words(part: ModulePart) -> &'static str
 }
 
 impl Line for UnreadableModule {
-    ghost use Rattle.crash.specs.declared.unreadable_modules.UnreadableModule.{UnreadableModule};
+    ghost use Rattle.crash_streams.specs.declared.unreadable_modules.UnreadableModule.{UnreadableModule};
     ghost use Rattle.crash_text.specs.Damage.{unreadable_line};
 
     ghost Value = { UnreadableModule };

@@ -1,19 +1,21 @@
 //! The lines of the frames of a thread, and of the inlined calls in their functions.
 ghost use Rattle.std.specs.Prelude.{◌≡◌, ◌++◌, [], ◌∷◌, IfOk, OnOk, map};
-ghost use Rattle.crash.specs.Modules.{loaded_of};
-ghost use Rattle.crash_symbols.specs.NameParts.{call_of};
+ghost use Rattle.std.specs.Option.{option_map};
+ghost use Rattle.crash_streams.specs.Modules.{loaded_of};
+ghost use Rattle.crash_symbols.specs.NameParts.{call_of, source_of};
 ghost use Rattle.crash_symbols.specs.Shown.{shown_frame_of, shown_of};
 ghost use Rattle.crash_text.specs.Frames.{call_entry, each_entry, end_text, entries_in, entry_line};
 ghost use Rattle.crash_text.specs.Frames.{entry_of, found_text, printed_frames, rest_lines};
-ghost use Rattle.crash_text.specs.Frames.{walk_lines};
-ghost use Rattle.crash_text.specs.Lines.{Adds};
+ghost use Rattle.crash_text.specs.Frames.{source_text, walk_lines};
+ghost use Rattle.crash_lines.specs.Lines.{Adds};
+ghost use Rattle.crash_lines.specs.Parts.{part_text};
 ghost use Rattle.crash_text.specs.Page.{page_of};
 
 use crate::limits::TextLimits;
-use crate::lines::{Added, push_row, push_table};
 use crate::page::Page;
-use crate::parts::Part::{Count, Decimal, Hex, HexIf, Lossy, Place, Source, Words};
 use crash::{CrashFrame, CrashModule};
+use crash_lines::Part::{Count, Decimal, Hex, HexIf, Lossy, Place, Words};
+use crash_lines::{Added, Part, push_row, push_table};
 use crash_symbols::{InlinedCall, ShownFrame, ShownWalk, SourceLine, first_of};
 use minidump_bytes::LinuxOsStr;
 use stack_walk::{FrameTrust, WalkEnd};
@@ -44,7 +46,7 @@ pub(crate) fn push_walk(
 }
 
 // Returns the frames of a walk that are printed.
-#[tactic(auto, using(crate::proofs::FrameLemmas::first_values))]
+#[tactic(auto, using(crash_lines::proofs::FrameLemmas::first_values))]
 pub(crate) fn printed_frames<'s, 'l>(
     alloc: Global,
     limits: &TextLimits,
@@ -146,12 +148,23 @@ fn push_entry<'x>(
         (entry_line (map loaded_of modules.now) number (entry_of entry.now) ∷ []) result }
 {
     let address = entry.frame.address.unwrap_or(entry.frame.instruction);
+    let source = source_part(entry.source);
     let found = found_text(entry.is_inline, entry.frame.trust);
     push_row(out, &[
         Words("    #"), Decimal(number as u64), Words(" "), Hex(address),
-        Lossy(" ", entry.function), HexIf(" + ", entry.offset), Source(entry.source),
+        Lossy(" ", entry.function), HexIf(" + ", entry.offset), source,
         Place(modules, " in no module", entry.frame.module), Words(found),
     ])
+}
+
+// Returns the part that writes a source line.
+fn source_part<'x>(source: Option<SourceLine<'x>>) -> Part<'x>
+    ensures { part_text result ≡ source_text (option_map source_of source.entry) }
+{
+    match source {
+        Some(source) => Part::Line(source.file, source.line),
+        None => Part::Words(""),
+    }
 }
 
 // Returns the words for how a frame was found, or that it is an inlined call.

@@ -67,21 +67,15 @@
 #![tactic(auto)]
 
 mod damage;
-mod escape;
-mod exceptions;
 mod frames;
 mod limits;
 mod lines;
 mod lists;
-mod messages;
 mod modules;
 mod page;
-mod parts;
-mod point;
-mod system;
 mod text;
 mod threads;
 
+pub use crash_lines::push_line;
 pub use limits::TextLimits;
-pub use lines::push_line;
 pub use text::{crash_text, text_of};

@@ -3,23 +3,24 @@ ghost use Rattle.minidump.specs.Below.Contexts.Context.{map_ok};
 ghost use Rattle.minidump.specs.Below.MemoryLists.Unified.{unified_list, unified_regions};
 ghost use Rattle.minidump.specs.Promise.{handle_data_stream, linux_environ_stream};
 ghost use Rattle.minidump.specs.Promise.{linux_proc_limits_stream, unloaded_module_list_stream};
-ghost use Rattle.crash.specs.HandleKinds.{kind_of};
-ghost use Rattle.crash.specs.Modules.{unloaded_module_of};
-ghost use Rattle.crash_text.specs.Lines.{Adds, if_some};
+ghost use Rattle.crash_streams.specs.HandleKinds.{kind_of};
+ghost use Rattle.crash_streams.specs.Modules.{unloaded_module_of};
+ghost use Rattle.crash_lines.specs.Lines.{Adds, if_some};
 ghost use Rattle.crash_text.specs.Lists.{all_handles, environment_lines, handles_lines, limits_lines};
 ghost use Rattle.crash_text.specs.Lists.{list_lines, lists_lines, memory_lines};
 ghost use Rattle.crash_text.specs.Lists.{process_lists_lines, region_line, unloaded_lines};
 ghost use Rattle.crash_text.specs.Modules.{all_modules};
 ghost use Rattle.crash_text.specs.Page.{page_of};
-ghost use Rattle.crash_text.specs.Words.{count_row};
+ghost use Rattle.crash_lines.specs.Words.{count_row};
 
 use crate::limits::TextLimits;
-use crate::lines::{Added, Line, push_count, push_each, push_row};
+use crate::lines::{Line, push_each};
 use crate::page::Page;
-use crate::parts::Part::{Decimal, Failed, Hex, HexIf, HexOr, Key, Lossy, Stream, Text, Words};
 use crash::{
     HandleKind, ProcessLimit, StreamEntry, UnloadedModule, limits_of, regions_of, variables_of,
 };
+use crash_lines::Part::{Decimal, Failed, Hex, HexIf, HexOr, Key, Lossy, Stream, Text, Words};
+use crash_lines::{Added, push_count, push_row};
 use minidump::strings::LinuxOsStr;
 use minidump::{
     Error, MinidumpHandleDataStream, MinidumpHandleDescriptor, MinidumpLinuxEnviron,
@@ -27,7 +28,7 @@ use minidump::{
 };
 
 // Appends the number of items of a list, and their lines if they are asked for.
-#[tactic(auto, using(crate::proofs::LineLemmas::values))]
+#[tactic(auto, using(crash_lines::proofs::LineLemmas::values))]
 fn push_list<T: Line>(out: &mut String, is_asked: bool, what: &str, items: &[T]) -> Added
     ensures { Adds out.old out.new (list_lines is_asked what.now T.line
         (map T.value_of items.now)) result }
@@ -41,7 +42,7 @@ fn push_list<T: Line>(out: &mut String, is_asked: bool, what: &str, items: &[T])
 }
 
 // Appends the lists after the modules.
-#[tactic(auto, using(crate::proofs::LineLemmas::values))]
+#[tactic(auto, using(crash_lines::proofs::LineLemmas::values))]
 pub(crate) fn push_lists(out: &mut String, page: Page<'_, '_, '_, '_>) -> Added
     ensures { Adds out.old out.new (lists_lines (page_of page.entry)) result }
 {
@@ -95,7 +96,7 @@ fn all_modules(limits: &TextLimits) -> bool
 }
 
 impl Line for UnloadedModule {
-    ghost use Rattle.crash.specs.Modules.{UnloadedModuleValue};
+    ghost use Rattle.crash_streams.specs.Modules.{UnloadedModuleValue};
     ghost use Rattle.crash_text.specs.Lists.{unloaded_line};
 
     ghost Value = { UnloadedModuleValue };
@@ -115,7 +116,7 @@ impl Line for UnloadedModule {
 }
 
 impl Line for StreamEntry {
-    ghost use Rattle.crash.specs.declared.directory.StreamEntry.{StreamEntry};
+    ghost use Rattle.crash_streams.specs.declared.directory.StreamEntry.{StreamEntry};
     ghost use Rattle.crash_text.specs.Lists.{entry_line};
 
     ghost Value = { StreamEntry };
@@ -229,7 +230,7 @@ fn all_handles(limits: &TextLimits) -> bool
 }
 
 impl Line for HandleKind {
-    ghost use Rattle.crash.specs.HandleKinds.{KindValue};
+    ghost use Rattle.crash_streams.specs.HandleKinds.{KindValue};
     ghost use Rattle.crash_text.specs.Lists.{kind_line};
 
     ghost Value = { KindValue };
@@ -289,7 +290,7 @@ fn push_limits(
 }
 
 impl Line for ProcessLimit {
-    ghost use Rattle.crash.specs.Linux.{LimitValue, limit_of};
+    ghost use Rattle.crash_streams.specs.Linux.{LimitValue, limit_of};
     ghost use Rattle.crash_text.specs.Lists.{limit_line};
 
     ghost Value = { LimitValue };

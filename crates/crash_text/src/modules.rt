@@ -1,16 +1,16 @@
 ghost use Rattle.std.specs.Prelude.{◌≡◌, IfOk};
 ghost use Rattle.std.specs.Option.{option_copied, option_map};
 ghost use Rattle.crash_symbols.specs.Shown.{symbolized_of};
-ghost use Rattle.crash_text.specs.Lines.{Adds};
+ghost use Rattle.crash_lines.specs.Lines.{Adds};
 ghost use Rattle.crash_text.specs.Modules.{HasMarks, each_module, end_if, is_marked, module_at};
 ghost use Rattle.crash_text.specs.Modules.{modules_lines, named_modules, symbols_text};
 ghost use Rattle.crash_text.specs.Page.{page_of};
 
-use crate::lines::{Added, push_count, push_if_missing, push_row};
 use crate::page::Page;
-use crate::parts::Part::{Hex, HexIf, Key, Version, Words};
 use crate::threads::frames_in;
 use crash::{AddressFacts, CrashFrame};
+use crash_lines::Part::{Hex, HexIf, Key, Version, Words};
+use crash_lines::{Added, push_count, push_if_missing, push_row};
 use crash_symbols::{SymbolState, Symbolized};
 use minidump::Error;
 use std::alloc::{AllocError, Global};

@@ -1,8 +1,8 @@
 ghost use Rattle.std.specs.Prelude.{◌≡◌, [], ◌∷◌, ◌++◌, IfOk, OnOk, if◌then◌else◌, map};
 ghost use Rattle.std.specs.Option.{option_map};
-ghost use Rattle.crash.specs.Process.{system_of};
+ghost use Rattle.crash_streams.specs.Process.{system_of};
 ghost use Rattle.crash.specs.Threads.{thread_value};
-ghost use Rattle.crash_text.specs.Lines.{Adds};
+ghost use Rattle.crash_lines.specs.Lines.{Adds};
 ghost use Rattle.crash_text.specs.Page.{page_of};
 ghost use Rattle.crash_text.specs.Threads.{crashed_lines, each_other, frames_at, frames_in};
 ghost use Rattle.crash_text.specs.Threads.{heading_lines, is_index, is_range, no_walk_row};
@@ -11,10 +11,10 @@ ghost use Rattle.crash_text.specs.Threads.{stack_lines, thread_lines};
 
 use crate::frames::{printed_frames, push_walk};
 use crate::limits::TextLimits;
-use crate::lines::{Added, push_if_missing, push_row, push_table, push_text_line};
 use crate::page::Page;
-use crate::parts::Part::{Hex, Id, If, Short, Text, Words};
 use crash::{ContextProblem, CrashFrame, CrashSystem, CrashThread, StackRange};
+use crash_lines::Part::{Hex, Id, If, Short, Text, Words};
+use crash_lines::{Added, push_if_missing, push_row, push_table, push_text_line};
 use crash_symbols::shown_walk;
 use std::alloc::{AllocError, Global};
 

@@ -4,8 +4,8 @@ use Rattle.std.specs.Option.{option_map_or}
 use Rattle.crash.specs.Cause.{ExceptionValue}
 use Rattle.crash.specs.declared.contexts.ContextProblem.{ContextProblem}
 use Rattle.crash.specs.declared.contexts.ContextProblem.TheVariants.{NoSystem, NotAccepted, Outside}
-use Rattle.crash.specs.declared.records.Access.{Access}
-use Rattle.crash.specs.declared.records.Access.TheVariants.{Execute, Read, Write}
+use Rattle.crash_streams.specs.declared.records.Access.{Access}
+use Rattle.crash_streams.specs.declared.records.Access.TheVariants.{Execute, Read, Write}
 use Rattle.minidump_c.specs.declared.exceptions.ExceptionRow.{ExceptionRow}
 use Rattle.minidump_c.specs.Spans.{flag}
 use Rattle.minidump_c.specs.Text.{buffer_with}

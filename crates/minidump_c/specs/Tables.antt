@@ -2,7 +2,7 @@
 -- with the texts before it and after them its own.
 use Rattle.std.specs.Prelude.{ℕ, ◌++◌, List, length, unwrap_or}
 use Rattle.std.specs.Option.{option_map_or}
-use Rattle.crash.specs.Modules.{LoadedValue, UnloadedModuleValue}
+use Rattle.crash_streams.specs.Modules.{LoadedValue, UnloadedModuleValue}
 use Rattle.crash.specs.Threads.{ThreadValue, short_context}
 use Rattle.minidump_c.specs.declared.tables.ModuleRow.{ModuleRow}
 use Rattle.minidump_c.specs.declared.tables.RegisterRow.{RegisterRow}

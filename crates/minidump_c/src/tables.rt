@@ -125,7 +125,7 @@ impl MakeRow for CrashThread {
 }
 
 impl MakeRow for CrashModule {
-    ghost use Rattle.crash.specs.Modules.{LoadedValue, loaded_of};
+    ghost use Rattle.crash_streams.specs.Modules.{LoadedValue, loaded_of};
     ghost use Rattle.minidump_c.specs.Tables.{module_row};
 
     type Row = ModuleRow;
@@ -155,7 +155,7 @@ impl MakeRow for CrashModule {
 }
 
 impl MakeRow for UnloadedModule {
-    ghost use Rattle.crash.specs.Modules.{UnloadedModuleValue, unloaded_module_of};
+    ghost use Rattle.crash_streams.specs.Modules.{UnloadedModuleValue, unloaded_module_of};
     ghost use Rattle.minidump_c.specs.Tables.{unloaded_row};
 
     type Row = UnloadedRow;

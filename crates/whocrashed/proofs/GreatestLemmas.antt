@@ -5,7 +5,7 @@ use Rattle.std.specs.List.{AllZip}
 use Rattle.std.proofs.lemmas.Bool.{cases_lt}
 use Rattle.std.proofs.lemmas.List.{map_more}
 use Rattle.std.proofs.lemmas.List.Elements.{All-push, All-weaker, Contains-append_left, Contains-push}
-use Rattle.whocrashed.specs.Input.{Asked}
+use Rattle.whocrashed_inputs.specs.Input.{Asked}
 use Rattle.whocrashed.specs.Status.{IsGreatest}
 
 -- lists whose items are pairwise in a relation, with one more of each

@@ -1,4 +1,1 @@
 mod GreatestLemmas
-mod NumberLemmas
-mod SymbolLemmas
-mod Utf8Lemmas

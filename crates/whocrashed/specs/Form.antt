@@ -9,11 +9,23 @@ use Rattle.crash_symbols.specs.Shown.{SymbolizedValue}
 use Rattle.crash_symbols.specs.Symbols.{KnownSymbols}
 use Rattle.crash_text.specs.declared.limits.TextLimits.{TextLimits}
 use Rattle.crash_text.specs.Text as text
-use Rattle.whocrashed.specs.declared.options.Form.{Form}
-use Rattle.whocrashed.specs.declared.options.Form.TheVariants.{Html, Json, Lines}
-use Rattle.whocrashed.specs.Symbols.{IsSound}
+use Rattle.whocrashed_inputs.specs.declared.options.Form.{Form}
+use Rattle.whocrashed_inputs.specs.declared.options.Form.TheVariants.{Html, Json, Lines}
+use Rattle.whocrashed_inputs.specs.declared.options.Options.{Options}
+use Rattle.whocrashed_inputs.specs.Symbols.{IsSound}
 
--- the limits of the JSON: those of the text that it has, too
+-- the limits of the text, by the options
+abbrev pub text_limits : Options → TextLimits
+text_limits options = record {
+  frames = options.frames;
+  all_threads = options.all_threads;
+  lists = options.lists;
+  modules = options.modules;
+  handles = options.handles;
+  environment = options.environment;
+}
+
+-- those of the JSON: of the text's those that it has, too
 abbrev pub json_limits : TextLimits → JsonLimits
 json_limits limits = record { frames = limits.frames; environment = limits.environment }
 

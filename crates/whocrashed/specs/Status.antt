@@ -10,7 +10,7 @@ use Rattle.clap.specs.declared.error.kind.ErrorKind.{ErrorKind}
 use Rattle.clap.specs.declared.error.kind.ErrorKind.TheVariants as kind
 use Rattle.minidump.specs.Below.Reasons.Names.{Lists}
 use Rattle.crash.specs.Crash.{crash_in, status_of}
-use Rattle.whocrashed.specs.Input.{Asked, File, Input, Malformed}
+use Rattle.whocrashed_inputs.specs.Input.{Asked, File, Input, Malformed}
 
 -- the status of the crash that the bytes hold, with the names of codes of these lists and at most so
 -- many candidates a thread; 1 where the file has more bytes than the limit, or can't be read

@@ -2,18 +2,17 @@ ghost use Rattle.std.specs.Prelude.{◌≡◌, ◌++◌, [], ◌∷◌, IfOk, No
 ghost use Rattle.std.specs.Option.{option_copied, option_map};
 ghost use Rattle.crash.specs.Crash.{crash_of};
 ghost use Rattle.crash_symbols.specs.Shown.{symbolized_of};
-ghost use Rattle.whocrashed.specs.Form.{IsByFiles, form_in};
-ghost use Rattle.whocrashed.specs.Options.{has_dirs};
+ghost use Rattle.whocrashed.specs.Form.{IsByFiles, form_in, json_limits, text_limits};
+ghost use Rattle.whocrashed_inputs.specs.Options.{has_dirs};
 
-use crate::options::Form;
 use crate::report::Reporter;
-use crate::symbols::{SymbolCache, unknown};
 use crash::Crash;
 use crash_json::{JsonLimits, json_of};
 use crash_symbols::{Backtraces, Symbolized};
-use crash_text::text_of;
+use crash_text::{TextLimits, text_of};
 use std::alloc::AllocError;
 use std::str;
+use whocrashed_inputs::{Form, Options, SymbolCache, unknown};
 
 // How often further symbol files are looked for, for one dump.
 const ROUNDS: usize = 64;
@@ -29,10 +28,10 @@ impl Reporter<'_, '_, '_> {
         cache: &mut SymbolCache<'_>,
     ) -> Result<Vec<u8>, AllocError>
         ensures plain { has_dirs self.now.options.now ≡ false → IfOk result (λ form. form.items
-            ≡ form_in self.now.options.now.form self.now.options.now.limits path.now None
+            ≡ form_in self.now.options.now.form (text_limits self.now.options.now) path.now None
             (crash_of crash.now)) }
         ensures by_files { has_dirs self.now.options.now ≡ true → IfOk result (λ form. IsByFiles
-            self.now.options.now.form self.now.options.now.limits self.now.options.now.scan path.now
+            self.now.options.now.form (text_limits self.now.options.now) self.now.options.now.scan path.now
             (crash_of crash.now) form.items) }
     {
         if self.options.symbols.is_empty() {
@@ -67,23 +66,45 @@ impl Reporter<'_, '_, '_> {
         symbols: Option<&Symbolized<'_, '_>>,
     ) -> Result<Vec<u8>, AllocError>
         ensures { IfOk result (λ form. form.items ≡ form_in self.now.options.now.form
-            self.now.options.now.limits path.now (option_map symbolized_of (option_copied symbols.entry))
+            (text_limits self.now.options.now) path.now (option_map symbolized_of (option_copied symbols.entry))
             (crash_of crash.now)) }
     {
         let alloc = self.rt.alloc();
-        let limits = JsonLimits {
-            frames: self.options.limits.frames,
-            environment: self.options.limits.environment,
-        };
+        let text = text_limits(self.options);
+        let json = json_limits(&text);
         match self.options.form {
-            Form::Lines => Ok(text_of(alloc, crash, &self.options.limits, symbols)?.into_bytes()),
-            Form::Json => end_line(json_of(alloc, Some(path), crash, &limits, symbols)?),
+            Form::Lines => Ok(text_of(alloc, crash, &text, symbols)?.into_bytes()),
+            Form::Json => end_line(json_of(alloc, Some(path), crash, &json, symbols)?),
             Form::Html => {
-                let json = json_of(alloc, Some(path), crash, &limits, symbols)?;
+                let json = json_of(alloc, Some(path), crash, &json, symbols)?;
                 let json = str::from_utf8(&json).unwrap_or("null");
                 Ok(crash_html::page(alloc, json)?.into_bytes())
             }
         }
+    }
+}
+
+// Returns how much of a crash its text has.
+fn text_limits(options: &Options<'_>) -> TextLimits
+    ensures { result ≡ text_limits options.now }
+{
+    TextLimits {
+        frames: options.frames,
+        all_threads: options.all_threads,
+        lists: options.lists,
+        modules: options.modules,
+        handles: options.handles,
+        environment: options.environment,
+    }
+}
+
+// Returns how much of it its JSON has.
+fn json_limits(limits: &TextLimits) -> JsonLimits
+    ensures { result ≡ json_limits limits.now }
+{
+    JsonLimits {
+        frames: limits.frames,
+        environment: limits.environment,
     }
 }
 

@@ -32,28 +32,22 @@
 //!
 //! # What is proved
 //!
-//! The dumps are the values of the argument `DUMP`, and after them the paths of the list, both in
-//! their order: `dumps_in`. What is read of a file is all of it, or nothing if it has
-//! more bytes than the limit: `read_to_limit`. The status of a dump is that of the crash that its
-//! bytes hold, whatever the form: `report_bytes`. It is 1 for a file that can't be read or is too
-//! large, and may be 1 for any where memory ran out: `report`. Arguments that give no options
-//! have status 0 if they ask for the help or the version, 1 if memory ran out, and else 2:
-//! `answer`, `complain_of_arguments`. The status of a run is the greatest of its dumps', for
-//! whatever reads them: `report_each`, `report_dumps`. No status is above 2: `run`. A symbol file
-//! says what its text says, and stands only at modules whose file it is: `kept`,
-//! `SymbolCache::find`. What is made of a crash is its text, its JSON or its page, by the options
-//! and by such files: `form_of`. The line of JSON of a file that is no dump is its path and why:
-//! `error_line`. That these are what is printed is not proved.
+//! What it is given is that of [`whocrashed_inputs`]: the options, the dumps and the symbol files.
+//! The status of a dump is that of the crash that its bytes hold, whatever the form:
+//! `report_bytes`. It is 1 for a file that can't be read or is too large, and may be 1 for any
+//! where memory ran out: `report`. Arguments that give no options have status 0 if they ask for the
+//! help or the version, 1 if memory ran out, and else 2: `answer`, `complain_of_arguments`. The
+//! status of a run is the greatest of its dumps', for whatever reads them: `report_each`,
+//! `report_dumps`. No status is above 2: `run`. What is made of a crash is its text, its JSON or
+//! its page, by the options and by such files: `form_of`. The line of JSON of a file that is no
+//! dump is its path and why: `error_line`. That these are what is printed is not proved.
 #![tactic(auto)]
 
 mod complain;
 mod form;
-mod input;
 mod names;
-mod options;
 mod program;
 mod report;
-mod symbols;
 
 use std::process::ExitCode;
 use std::{env, io};

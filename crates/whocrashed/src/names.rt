@@ -1,9 +1,9 @@
 use crate::complain::complain;
-use crate::options::Options;
 use minidump_names::{NameTable, family_name, listing_in};
 use std::alloc::{AllocError, Global};
 use std::collections::BTreeMap;
 use std::{fs, io};
+use whocrashed_inputs::Options;
 
 /// Returns the text of the names that are asked for: those that are compiled in, unless they are left
 /// out, and those of each file. Of two names of a code that of the later file counts. Returns `None`

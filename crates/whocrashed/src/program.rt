@@ -1,21 +1,19 @@
 ghost use Rattle.std.specs.Prelude.{◌≡◌, ◌<◌, ◌≤◌, ◌++◌, ℕ, List, IfOk, OnErr, OnOk, map, take};
 ghost use Rattle.std.specs.IoError.{error_kind};
 ghost use Rattle.clap.specs.Words.{kind_of};
-ghost use Rattle.whocrashed.specs.Input.{asked_in, asked_of, by_argument};
+ghost use Rattle.whocrashed_inputs.specs.Input.{asked_in, asked_of, by_argument};
 ghost use Rattle.whocrashed.specs.Status.{IsGreatest, IsListOf, MayHave, status_of_kind, status_without};
 
 use crate::complain::{complain, complain_in_any_case, say};
-use crate::input::{Dump, Files, ReadDumps, dumps_in};
 use crate::names::names_text;
-use crate::options::Options;
 use crate::report::Reporter;
-use crate::symbols::SymbolCache;
 use clap::Error;
 use clap::error::ErrorKind;
 use crash_text::push_line;
 use minidump::text::Piece;
 use minidump_names::NameTable;
 use std::io;
+use whocrashed_inputs::{Dump, Files, Options, ReadDumps, SymbolCache, dumps_in};
 
 /// Runs the program with its arguments, without its own name, and returns the status: 0; 1 where a
 /// dump, a file or the output failed, where something of a dump is there and can't be read, and

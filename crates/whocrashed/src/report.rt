@@ -1,20 +1,18 @@
 ghost use Rattle.std.specs.Prelude.{◌≡◌, ◌≢◌, ◌<◌, ◌++◌, [], ◌∷◌, IfOk, IsOk};
 ghost use Rattle.crash.specs.Crash.{crash_in, status_of};
 ghost use Rattle.crash_json.specs.Report.{error_text};
-ghost use Rattle.whocrashed.specs.Input.{asked_of};
+ghost use Rattle.whocrashed_inputs.specs.Input.{asked_of};
 ghost use Rattle.whocrashed.specs.Status.{HasStatus, MayHave, status_read};
 
 use crate::complain::{complain, complain_in_any_case, say};
 use crate::form::end_line;
-use crate::input::{Dump, ReadDumps};
-use crate::options::{Form, Options};
-use crate::symbols::SymbolCache;
 use crash::{Crash, status_of};
 use crash_json::error_json;
 use crash_text::push_line;
 use minidump::text::Piece;
 use minidump::{CodeNames, Error};
 use std::{fmt, io};
+use whocrashed_inputs::{Dump, Form, Options, ReadDumps, SymbolCache};
 
 const NO_MEMORY: &str = "{\"path\":null,\"status\":\"OutOfMemory\"}\n";
 

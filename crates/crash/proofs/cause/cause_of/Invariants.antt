@@ -3,7 +3,7 @@ use Rattle.std.proofs.Common.{◌≡◌, map, take}
 use Rattle.minidump.specs.Below.Contexts.Context.{map_ok}
 use Rattle.minidump.specs.Promise.{exception_stream}
 use Rattle.crash.specs.Cause.{exception_in, exception_of}
-use Rattle.crash.specs.Contents.{contents_of}
+use Rattle.crash_streams.specs.Contents.{contents_of}
 use Rattle.crash.proofs.cause.cause_of.Given as goal
 
 abbrev pub invariant-loop-item : goal.invariant-loop-item

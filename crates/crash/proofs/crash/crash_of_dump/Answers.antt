@@ -6,19 +6,19 @@ use Rattle.minidump.specs.Dump.{Dump}
 use Rattle.minidump.specs.DumpValue.{dump_of}
 use Rattle.crash.specs.declared.damage.Damage.{Damage}
 use Rattle.crash.specs.Cause.{CauseValue, cause_in, cause_of}
-use Rattle.crash.specs.Contents.{ContentsValue, contents_of}
+use Rattle.crash_streams.specs.Contents.{ContentsValue, contents_of}
 use Rattle.crash.specs.Crash.{CrashValue, crash_by, damage_in}
-use Rattle.crash.specs.Directory.{DirectoryValue, directory_in, directory_of}
-use Rattle.crash.specs.Modules.{ModulesValue, modules_in, modules_of}
+use Rattle.crash_streams.specs.Directory.{DirectoryValue, directory_in, directory_of}
+use Rattle.crash_streams.specs.Modules.{ModulesValue, modules_in, modules_of}
 use Rattle.crash.specs.Point.{PointValue, point_in, point_of}
-use Rattle.crash.specs.Process.{ProcessFacts, process_in, process_of}
+use Rattle.crash_streams.specs.Process.{ProcessFacts, process_in, process_of}
 use Rattle.crash.specs.Threads.{ThreadsValue, threads_in, threads_of}
 use Rattle.crash.proofs.crash.crash_of_dump.Goals as goal
 
 parts_are_crash : (names : Lists) (scan : ℕ) (d : Dump) (c : ContentsValue) (directory : DirectoryValue) (process : ProcessFacts) (cause : CauseValue)
     (threads : ThreadsValue) (point : Option PointValue) (modules : ModulesValue) (damage : List Damage) → directory ≡ directory_in d c
     → process ≡ process_in d c → cause ≡ cause_in names c → threads ≡ threads_in names scan c
-    → point ≡ point_in c threads.crashing → modules ≡ modules_in d c
+    → point ≡ point_in c threads.code_bits threads.crashing → modules ≡ modules_in d c
     → damage ≡ damage_in c directory process cause threads
     → ◌≡◌ {A = CrashValue} (record { contents = c; directory = directory; process = process; cause = cause; threads = threads; point = point; modules = modules; damage = damage })
     (crash_by names scan d c)

@@ -10,7 +10,7 @@ use Rattle.crash.specs.Cause.{exception_of}
 use Rattle.crash.specs.declared.damage.Damage.{Damage}
 use Rattle.crash.specs.Damage.{context_damage, exception_damage, exception_error, parameters_damage, stack_damage, stream_damage}
 use Rattle.crash.specs.Threads.{thread_value}
-use Rattle.crash.proofs.Found.{found_in_values, values_before}
+use Rattle.crash_streams.proofs.Found.{found_in_values, values_before}
 use Rattle.crash.proofs.damage.damage_of.Goals as goal
 
 joined : {D : Type 0} (a b : List D) {c c' d d' e e' f f' g g' : List D} → c ≡ c' → d ≡ d' → e ≡ e' → f ≡ f' → g ≡ g'

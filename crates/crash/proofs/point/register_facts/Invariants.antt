@@ -2,7 +2,7 @@
 use Rattle.std.proofs.Common.{◌≡◌, ℕ, List, filter, map, take}
 use Rattle.crash.specs.declared.addresses.AddressFacts.{AddressFacts}
 use Rattle.crash.specs.Addresses.{facts_of}
-use Rattle.crash.specs.Contents.{contents_of}
+use Rattle.crash_streams.specs.Contents.{contents_of}
 use Rattle.crash.specs.Point.{holds_address}
 use Rattle.crash.proofs.point.register_facts.Given as goal
 

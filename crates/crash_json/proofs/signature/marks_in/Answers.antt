@@ -1,7 +1,7 @@
 -- One frame more, and what is found at the end.
 use Rattle.std.proofs.Common.{◌≡◌, ◌≤◌, ◌+◌, arith, length, map, string_bytes}
 use Rattle.std.proofs.lemmas.List.{length-map}
-use Rattle.crash.specs.Modules.{loaded_of}
+use Rattle.crash_streams.specs.Modules.{loaded_of}
 use Rattle.crash_symbols.specs.Shown.{shown_frame_of}
 use Rattle.crash_json.specs.Signature.{mark_of, marks_in}
 use Rattle.crash_json.proofs.SignatureLemmas.{few_found, next_found, one_more, three_found}

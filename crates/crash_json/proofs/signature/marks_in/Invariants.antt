@@ -1,7 +1,7 @@
 -- The words for the frames so far, of which there are at most three.
 use Rattle.std.proofs.Common.{◌≡◌, ◌≤◌, length, map, string_bytes, take}
 use Rattle.std.specs.List.{filter_map}
-use Rattle.crash.specs.Modules.{loaded_of}
+use Rattle.crash_streams.specs.Modules.{loaded_of}
 use Rattle.crash_symbols.specs.Shown.{shown_frame_of}
 use Rattle.crash_json.specs.Signature.{mark_of}
 use Rattle.crash_json.proofs.signature.marks_in.Given as goal

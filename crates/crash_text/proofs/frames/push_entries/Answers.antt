@@ -1,9 +1,9 @@
 -- One more.
 use Rattle.std.proofs.Common.{map, string_bytes}
-use Rattle.crash.specs.Modules.{loaded_of}
+use Rattle.crash_streams.specs.Modules.{loaded_of}
 use Rattle.crash_text.specs.Frames.{entry_of}
 use Rattle.crash_text.specs.Frames.{entry_line}
-use Rattle.crash_text.proofs.NumberLemmas.{next_value}
+use Rattle.crash_lines.proofs.NumberLemmas.{next_value}
 use Rattle.crash_text.proofs.frames.push_entries.Goals as goal
 
 pub loop-number-preserved : goal.loop-number-preserved

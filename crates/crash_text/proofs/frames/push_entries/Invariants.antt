@@ -1,10 +1,10 @@
 -- The lines of the frames and calls so far.
 use Rattle.std.proofs.Common.{◌≡◌, ◌++◌, map, string_bytes, take}
 use Rattle.std.specs.List.{flat_map}
-use Rattle.crash.specs.Modules.{loaded_of}
+use Rattle.crash_streams.specs.Modules.{loaded_of}
 use Rattle.crash_text.specs.Frames.{entry_of}
 use Rattle.crash_text.specs.Frames.{each_entry}
-use Rattle.crash_text.specs.Lines.{line_of}
+use Rattle.crash_lines.specs.Lines.{line_of}
 use Rattle.crash_text.proofs.frames.push_entries.Given as goal
 
 abbrev pub invariant-loop-number : goal.invariant-loop-number

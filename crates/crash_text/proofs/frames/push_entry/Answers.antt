@@ -4,4 +4,4 @@ use Rattle.crash_text.proofs.frames.push_entry.Goals as goal
 
 pub returns : goal.returns
 unfolding entry_line
-returns c = rw (← c.unwrap_or-address.ensures, ← c.found_text-found.ensures) c.push_row.ensures
+returns c = rw (← c.unwrap_or-address.ensures, ← c.source_part-source.ensures, ← c.found_text-found.ensures) c.push_row.ensures

@@ -1,7 +1,7 @@
 -- The lines so far.
 use Rattle.std.proofs.Common.{◌≡◌, ◌++◌, map, string_bytes, take}
 use Rattle.std.specs.List.{flat_map}
-use Rattle.crash_text.specs.Lines.{line_of}
+use Rattle.crash_lines.specs.Lines.{line_of}
 use Rattle.crash_text.proofs.lines.push_each.Given as goal
 
 abbrev pub invariant-loop-item : goal.invariant-loop-item

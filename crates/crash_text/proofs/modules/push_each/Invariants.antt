@@ -1,7 +1,7 @@
 -- The lines of the modules so far.
 use Rattle.std.proofs.Common.{◌≡◌, ◌++◌, string_bytes, take}
 use Rattle.std.specs.List.{flat_map}
-use Rattle.crash_text.specs.Lines.{line_of}
+use Rattle.crash_lines.specs.Lines.{line_of}
 use Rattle.crash_text.specs.Modules.{each_module, is_marked}
 use Rattle.crash_text.specs.Page.{page_of}
 use Rattle.crash_text.proofs.modules.push_each.Given as goal

@@ -4,10 +4,10 @@ use Rattle.std.specs.List.{flat_map}
 use Rattle.std.specs.Option.{option_copied, option_map}
 use Rattle.crash.specs.Crash.{crash_of}
 use Rattle.crash_symbols.specs.Shown.{symbolized_of}
-use Rattle.crash_text.specs.Lines.{line_of}
+use Rattle.crash_lines.specs.Lines.{line_of}
 use Rattle.crash_text.specs.Text.{lines_of}
-use Rattle.crash_text.proofs.LineLemmas.{lines_printed}
-use Rattle.crash_text.proofs.NumberLemmas.{more_lines}
+use Rattle.crash_lines.proofs.LineLemmas.{lines_printed}
+use Rattle.crash_lines.proofs.NumberLemmas.{more_lines}
 use Rattle.crash_text.proofs.text.text_of.Goals as goal
 
 -- lines were appended, and then others

@@ -3,7 +3,7 @@ use Rattle.std.proofs.Common.{ap, map, sym, take, ◌+◌, ◌∙◌, ◌++◌}
 use Rattle.crash.specs.Threads.{thread_value}
 use Rattle.crash_text.specs.Page.{page_of}
 use Rattle.crash_text.specs.Threads.{frames_at}
-use Rattle.crash_text.proofs.NumberLemmas.{length_values, more_items, took_values}
+use Rattle.crash_lines.proofs.NumberLemmas.{length_values, more_items, took_values}
 use Rattle.crash_text.proofs.threads.frames_in.Goals as goal
 
 pub loop-number-preserved : goal.loop-number-preserved

@@ -3,7 +3,7 @@ use Rattle.std.proofs.Common.{map, string_bytes, take, ◌+◌}
 use Rattle.crash.specs.Threads.{thread_value}
 use Rattle.crash_text.specs.Page.{page_of}
 use Rattle.crash_text.specs.Threads.{each_other, other_lines}
-use Rattle.crash_text.proofs.NumberLemmas.{length_values, more_items, more_lines, took_values}
+use Rattle.crash_lines.proofs.NumberLemmas.{length_values, more_items, more_lines, took_values}
 use Rattle.crash_text.proofs.threads.push_others.Goals as goal
 
 pub loop-number-preserved : goal.loop-number-preserved

@@ -2,7 +2,7 @@
 use Rattle.std.proofs.Common.{◌≡◌, ◌++◌, map, string_bytes, take}
 use Rattle.std.specs.List.{flat_map}
 use Rattle.crash.specs.Threads.{thread_value}
-use Rattle.crash_text.specs.Lines.{line_of}
+use Rattle.crash_lines.specs.Lines.{line_of}
 use Rattle.crash_text.specs.Page.{page_of}
 use Rattle.crash_text.specs.Threads.{each_other}
 use Rattle.crash_text.proofs.threads.push_others.Given as goal

@@ -1,6 +1,6 @@
 -- One status more.
 use Rattle.std.proofs.Common.{arith}
-use Rattle.whocrashed.specs.Input.{asked_of}
+use Rattle.whocrashed_inputs.specs.Input.{asked_of}
 use Rattle.whocrashed.specs.Status.{MayHave}
 use Rattle.whocrashed.proofs.GreatestLemmas.{begun, with_next}
 use Rattle.whocrashed.proofs.program.report_each.Goals as goal

@@ -1,6 +1,6 @@
 -- The greatest of the statuses so far.
 use Rattle.std.proofs.Common.{◌<◌, map, take}
-use Rattle.whocrashed.specs.Input.{asked_of}
+use Rattle.whocrashed_inputs.specs.Input.{asked_of}
 use Rattle.whocrashed.specs.Status.{IsGreatest, MayHave}
 use Rattle.whocrashed.proofs.program.report_each.Given as goal
 

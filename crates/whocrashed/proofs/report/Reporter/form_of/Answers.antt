@@ -1,6 +1,6 @@
 -- Nothing is known at first, and then what was found.
 use Rattle.crash_symbols.specs.Symbols.{known_of}
-use Rattle.whocrashed.proofs.SymbolLemmas.{none_sound}
+use Rattle.whocrashed_inputs.proofs.SymbolLemmas.{none_sound}
 use Rattle.whocrashed.proofs.report.Reporter.form_of.Goals as goal
 
 pub loop-init : goal.loop-init

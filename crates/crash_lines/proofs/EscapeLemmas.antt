@@ -1,0 +1,96 @@
+-- An escaped text has no control characters, and one without any is its own.
+use Rattle.std.proofs.Common.{◌≡◌, ℕ, ◌<◌, Bool, true, false, not, List, [], ◌∷◌, ap, append-nil, refl, ◌∙◌, ⊎_elim, arith, chars, codes}
+use Rattle.std.proofs.Common.{encode_utf8_all, nat_lt, IsUtf8}
+use Rattle.std.proofs.lemmas.Bool.{and_from, and_parts, cases_Bool, or_parts}
+use Rattle.std.proofs.lemmas.Bool.Decides.{nat_tests}
+use Rattle.std.proofs.lemmas.Fmt.{digits_is_IsNumeral}
+use Rattle.std.proofs.lemmas.List.Concat.{flat_map-cons}
+use Rattle.std.proofs.lemmas.List.Folds.{list_all-append}
+use Rattle.std.proofs.lemmas.Str.{encode_ascii, encodes-chars}
+use Rattle.std.specs.Char.{digit_value}
+use Rattle.std.specs.Fmt.{digits}
+use Rattle.std.specs.List.{flat_map, list_all, list_any}
+use Rattle.std.specs.Str.Parse.{AllDigits}
+use native.Mathlib.Nat.{lt_trans}
+use lib.Dec.{lit<}
+use lib.Utf8.{encode}
+use Rattle.crash_lines.specs.Escape.{escape, escape_char, escaped_text, is_control, is_printed}
+
+-- a character stands as it is
+abbrev pub stands : ℕ → Bool
+stands c = not (is_control c)
+
+-- ---- escapes
+
+small : (c : ℕ) → is_control c ≡ true → c < 0x2070
+small c h = grind (arith, nat_tests)
+
+all_digits : (p : ℕ → Bool) → ((d : ℕ) → digit_value d < 16 → p d ≡ true) → (ds : List ℕ) → AllDigits 16 ds → list_all p ds ≡ true
+all_digits p each [] h = refl
+all_digits p each (d ∷ ds) h = and_from _ _ (each d h.0) (all_digits p each ds h.1)
+
+-- what holds of each digit and of the bytes around them holds of an escape
+escape_all : (p : ℕ → Bool) → ((d : ℕ) → digit_value d < 16 → p d ≡ true) → list_all p (codes "\\u{") ≡ true → list_all p (codes "}") ≡ true
+    → (c : ℕ) → is_control c ≡ true → list_all p (escape c) ≡ true
+escape_all p each before after c h =
+    let numeral = digits_is_IsNumeral 16 false (omega arith) (omega arith) c (lt_trans (small c h) (lit< tt)) in
+    let number : list_all p (digits 16 false c) ≡ true = all_digits p each (digits 16 false c) numeral.0.1 in
+    rw (list_all-append p (codes "\\u{"), list_all-append p (digits 16 false c)) (and_from _ _ before (and_from _ _ number after))
+
+digit_stands : (d : ℕ) → digit_value d < 16 → stands d ≡ true
+digit_stands d h = grind (arith, nat_tests)
+
+-- an escape is of ASCII
+digit_ascii : (d : ℕ) → digit_value d < 16 → nat_lt d 128 ≡ true
+digit_ascii d h = grind (arith, nat_tests)
+
+below : (b : ℕ) → nat_lt b 128 ≡ true → b < 128
+below b h = grind (arith, nat_tests)
+
+ascii_bytes : (bs : List ℕ) → list_all (λ b. nat_lt b 128) bs ≡ true → encode_utf8_all bs ≡ bs
+ascii_bytes [] h = refl
+ascii_bytes (b ∷ bs) h =
+    let p = and_parts (nat_lt b 128) (list_all (λ b. nat_lt b 128) bs) h in
+    rw (encode_ascii b (below b p.0), ascii_bytes bs p.1) refl
+
+-- the bytes of an escape
+pub escape_bytes : (c : ℕ) → is_control c ≡ true → encode_utf8_all (flat_map escape_char (c ∷ [])) ≡ escape c
+escape_bytes c h = rw h (ap encode_utf8_all (append-nil (escape c)) ∙ ascii_bytes (escape c) (escape_all (λ b. nat_lt b 128) digit_ascii refl refl c h))
+
+char_stands : (c : ℕ) → list_all stands (escape_char c) ≡ true
+char_stands c = ⊎_elim
+    (λ (h : is_control c ≡ true). rw h (escape_all stands digit_stands refl refl c h))
+    (λ (h : is_control c ≡ false). rw (h, h) refl)
+    (cases_Bool (is_control c))
+
+text_stands : (cs : List ℕ) → list_all stands (flat_map escape_char cs) ≡ true
+text_stands [] = refl
+text_stands (c ∷ cs) = rw (flat_map-cons, list_all-append) (and_from _ _ (char_stands c) (text_stands cs))
+
+-- ---- bytes
+
+char_printed : (c : ℕ) → stands c ≡ true → list_all is_printed (encode c) ≡ true
+unfolding encode
+char_printed c h = grind (arith, nat_tests)
+
+chars_printed : (cs : List ℕ) → list_all stands cs ≡ true → list_all is_printed (encode_utf8_all cs) ≡ true
+chars_printed [] h = refl
+chars_printed (c ∷ cs) h =
+    let p = and_parts (stands c) (list_all stands cs) h in
+    rw list_all-append (and_from _ _ (char_printed c p.0) (chars_printed cs p.1))
+
+-- each byte of an escaped text is printed
+pub escaped_printed : (text : List ℕ) → list_all is_printed (escaped_text text) ≡ true
+escaped_printed text = chars_printed (flat_map escape_char (chars text)) (text_stands (chars text))
+
+-- ---- texts without control characters
+
+same_chars : (cs : List ℕ) → list_any is_control cs ≡ false → flat_map escape_char cs ≡ cs
+same_chars [] h = refl
+same_chars (c ∷ cs) h =
+    let p = or_parts (is_control c) (list_any is_control cs) h in
+    rw (flat_map-cons, p.0) (ap (λ rest. c ∷ rest) (same_chars cs p.1))
+
+-- a text without control characters is printed as it is
+pub escaped_plain : (text : List ℕ) → IsUtf8 text → list_any is_control (chars text) ≡ false → escaped_text text ≡ text
+escaped_plain text u h = ap encode_utf8_all (same_chars (chars text) h) ∙ encodes-chars text u

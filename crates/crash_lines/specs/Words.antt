@@ -1,0 +1,132 @@
+-- Words of lines.
+use Rattle.std.specs.Prelude.{ℕ, Bool, List, [], ◌∷◌, Option, Some, None, Result, Ok, Err, codes}
+use Rattle.std.specs.Prelude.{if◌then◌else◌, ◌++◌, ◌==◌, bytes_eq, slice_get, unwrap_or}
+use Rattle.std.specs.Fmt.{decimal}
+use Rattle.std.specs.List.{concat}
+use Rattle.std.specs.Str.Lossy.{utf8_lossy}
+use Rattle.minidump.specs.declared.Error.{Error}
+use Rattle.minidump.specs.declared.format.MINIDUMP_STREAM_TYPE.{MINIDUMP_STREAM_TYPE}
+use Rattle.minidump.specs.Below.Bytes.Piece.{hex}
+use Rattle.minidump.specs.Below.Format.Error.{name_of_error}
+use Rattle.minidump.specs.Below.Format.StreamType.{stream_type_of, type_name}
+use Rattle.crash_streams.specs.Missing.{is_missing}
+use Rattle.crash_streams.specs.Modules.{LoadedValue}
+
+-- a text, or an empty one where there is none
+abbrev pub or_empty : Option (List ℕ) → List ℕ
+or_empty text = unwrap_or text []
+
+-- words where something is so, and else none
+abbrev pub words_if : Bool → List ℕ → List ℕ
+words_if is_so words = if is_so then words else []
+
+-- ---- the words that a part of a row writes
+
+-- a number in decimal between words, where there is one
+abbrev pub decimal_if : List ℕ → Option ℕ → List ℕ → List ℕ
+decimal_if before (Some n) after = concat (before ∷ decimal n ∷ after ∷ [])
+decimal_if before None after = []
+
+-- a count between words, and nothing for 0
+abbrev pub count_if : List ℕ → ℕ → List ℕ → List ℕ
+count_if before n after = if n == 0 then [] else concat (before ∷ decimal n ∷ after ∷ [])
+
+-- a number in hexadecimal after words, where there is one
+abbrev pub hex_if : List ℕ → Option ℕ → List ℕ
+hex_if words (Some n) = concat (words ∷ hex n ∷ [])
+hex_if words None = []
+
+-- the same, where it isn't this one
+abbrev pub hex_unless : ℕ → List ℕ → Option ℕ → List ℕ
+hex_unless known words (Some n) = if n == known then [] else concat (words ∷ hex n ∷ [])
+hex_unless known words None = []
+
+-- a number in hexadecimal, or words where there is none
+abbrev pub hex_or : Option ℕ → List ℕ → List ℕ
+hex_or (Some n) words = hex n
+hex_or None words = words
+
+-- the id of a process or a thread, in decimal and in hexadecimal
+abbrev pub id_words : ℕ → List ℕ
+id_words id = concat (decimal id ∷ codes " (" ∷ hex id ∷ codes ")" ∷ [])
+
+-- the same after words, where it is known
+abbrev pub id_if : List ℕ → Option ℕ → List ℕ
+id_if words (Some id) = words ++ id_words id
+id_if words None = []
+
+-- a text between words, where there is one
+abbrev pub text_if : List ℕ → Option (List ℕ) → List ℕ → List ℕ
+text_if before (Some text) after = concat (before ∷ text ∷ after ∷ [])
+text_if before None after = []
+
+-- a text after words, where it isn't empty
+abbrev pub text_after : List ℕ → List ℕ → List ℕ
+text_after words [] = []
+text_after words (b ∷ bs) = concat (words ∷ (b ∷ bs) ∷ [])
+
+-- a text of Linux after words, where there is one, with U+FFFD for what isn't UTF-8
+abbrev pub lossy_if : List ℕ → Option (List ℕ) → List ℕ
+lossy_if words (Some text) = concat (words ∷ utf8_lossy text ∷ [])
+lossy_if words None = []
+
+-- the name of an error after a colon, where there is one
+abbrev pub error_words : Option Error → List ℕ
+error_words (Some error) = concat (codes ": " ∷ name_of_error error ∷ [])
+error_words None = []
+
+-- the words for an offset in a module
+abbrev pub in_module : ℕ → List ℕ → Option LoadedValue → List ℕ
+in_module offset nowhere (Some m) = concat (codes " in " ∷ m.path ∷ codes "+" ∷ hex offset ∷ [])
+in_module offset nowhere None = nowhere
+
+-- the words for a place, by the index of a module and the offset in it, or these words where there
+-- is none
+abbrev pub place_text : List LoadedValue → List ℕ → Option (ℕ × ℕ) → List ℕ
+place_text modules nowhere (Some place) =
+    in_module place.1 nowhere (slice_get modules place.0)
+place_text modules nowhere None = nowhere
+
+-- ---- lines
+
+-- the line of the number of something
+unfoldable pub count_row : List ℕ → ℕ → List ℕ
+count_row what count = concat (what ∷ codes " " ∷ decimal count ∷ [])
+
+-- a line of these words, if an error says that something is missing
+abbrev pub if_missing : List ℕ → Error → List (List ℕ)
+if_missing words e = if is_missing e then words ∷ [] else []
+
+-- the line of a stream that is missing, and none for one that is there, read or not
+abbrev pub missing_lines : {V : Type 0} → List ℕ → Result V Error → List (List ℕ)
+missing_lines words (Ok _) = []
+missing_lines words (Err e) = if_missing words e
+
+-- ---- the words for a stream, a module and a source line
+
+-- the name of a type of stream, or `stream` and its number where it has none
+abbrev pub name_of_type : ℕ → Option MINIDUMP_STREAM_TYPE → List ℕ
+name_of_type number (Some known_type) = type_name known_type
+name_of_type number None = concat (codes "stream " ∷ hex number ∷ [])
+
+-- the words for the stream of a type
+abbrev pub stream_text : ℕ → List ℕ
+stream_text number = name_of_type number (stream_type_of number)
+
+-- the words for the name of a file and an identifier, where there are both
+abbrev pub key_text : List ℕ → Option (List ℕ) → Option (List ℕ) → List ℕ
+key_text label (Some file) (Some id) = concat (label ∷ file ∷ codes "/" ∷ id ∷ [])
+key_text label (Some file) None = []
+key_text label None id = []
+
+-- the words for a version, where there is one; 0.0.0.0 says nothing
+abbrev pub version_text : Option (List ℕ) → List ℕ
+version_text (Some version) = if bytes_eq version (codes "0.0.0.0") then []
+    else concat (codes ", version " ∷ version ∷ [])
+version_text None = []
+
+-- the words for a line of a source file, where the file is known
+abbrev pub line_text : Option (List ℕ) → ℕ → List ℕ
+line_text (Some file) line =
+    concat (codes " at " ∷ utf8_lossy file ∷ codes ":" ∷ decimal line ∷ [])
+line_text None line = []

@@ -1,0 +1,143 @@
+ghost use Rattle.std.specs.Prelude.{◌≡◌, [], ◌∷◌, map};
+ghost use Rattle.minidump.specs.Below.Contexts.Context.{map_ok};
+ghost use Rattle.crash.specs.Cause.{exception_of};
+ghost use Rattle.crash.specs.Crash.{crash_of};
+ghost use Rattle.crash_lines.specs.Exceptions.{cause_lines, context_words, counted_lines, crash_lines};
+ghost use Rattle.crash_lines.specs.Exceptions.{crashed_row};
+ghost use Rattle.crash_lines.specs.Exceptions.{exception_line, none_lines, several_lines, several_row};
+ghost use Rattle.crash_lines.specs.Lines.{Adds};
+
+use crate::lines::{Added, push_row, push_table, push_text_line};
+use crate::parts::Part::{Decimal, Failed, Hex, HexUnless, Id, Record, Text, TextAfter, Words};
+use crate::point::{push_address_line, push_point, push_registers};
+use crash::{ContextProblem, Crash, CrashException};
+use minidump::Error;
+
+/// Appends the lines of the crash, and those of the exceptions if there are several.
+pub fn push_crash(out: &mut String, crash: &Crash<'_>) -> Added
+    ensures { Adds out.old out.new (crash_lines (crash_of crash.now)) result }
+{
+    if let Some(exception) = crash.cause.counted() {
+        push_counted(out, crash, exception)?;
+    }
+    push_several(out, crash.cause.exceptions.as_slice(), crash.cause.counts)
+}
+
+/// Appends that there is no exception, if there is none.
+pub fn push_none(out: &mut String, exceptions: &[Result<CrashException, Error>]) -> Added
+    ensures { Adds out.old out.new (none_lines (map (map_ok exception_of) exceptions.now)) result }
+{
+    match exceptions {
+        [] => push_text_line(out, "no exception"),
+        _ => Ok(()),
+    }
+}
+
+// Appends the lines of the crash by the exception that counts.
+fn push_counted(out: &mut String, crash: &Crash<'_>, exception: &CrashException) -> Added
+    ensures { Adds out.old out.new
+        (counted_lines (crash_of crash.now) (exception_of exception.now)) result }
+{
+    push_crashed_row(out, exception.thread)?;
+    if let Some(facts) = &crash.cause.address {
+        push_address_line(out, crash, "", "address", "", facts)?;
+    }
+    push_cause(out, exception)?;
+    push_registers(out, crash, exception)?;
+    push_point(out, crash)
+}
+
+// Appends the line of the thread that crashed.
+#[tactic(auto, unfolding(crate::specs::Exceptions::crashed_row))]
+fn push_crashed_row(out: &mut String, thread: u32) -> Added
+    ensures { Adds out.old out.new (crashed_row thread ∷ []) result }
+{
+    push_row(out, &[Id("crashed thread ", Some(thread))])
+}
+
+// Appends the reason of an exception, its code with where it happened and what else its record says,
+// and LLDB's description of it.
+#[rattlefmt::skip]
+#[tactic(auto, unfolding(crate::specs::Exceptions::cause_lines))]
+fn push_cause(out: &mut String, exception: &CrashException) -> Added
+    ensures { Adds out.old out.new (cause_lines (exception_of exception.now)) result }
+{
+    push_table(out, &[
+        &[Text("reason  ", &exception.reason, "")],
+        &[
+            Words("code    "), Hex(exception.code as u64), Words(" at "), Hex(exception.at),
+            Record(exception),
+        ],
+        &[Text("description ", &exception.description, "")],
+    ])
+}
+
+// Appends the exceptions and which of them counts, if there are several.
+fn push_several(
+    out: &mut String,
+    exceptions: &[Result<CrashException, Error>],
+    counts: Option<usize>,
+) -> Added
+    ensures { Adds out.old out.new
+        (several_lines (map (map_ok exception_of) exceptions.now) counts) result }
+{
+    if exceptions.len() > 1 {
+        push_several_row(out, exceptions.len(), counts)?;
+        for (number, exception) in exceptions.iter().enumerate() {
+            push_exception(out, number, exception)?;
+        }
+    }
+    Ok(())
+}
+
+// Appends the number of exceptions, and which of them counts.
+#[rattlefmt::skip]
+#[tactic(auto, unfolding(crate::specs::Exceptions::several_row))]
+fn push_several_row(out: &mut String, count: usize, counts: Option<usize>) -> Added
+    ensures { Adds out.old out.new (several_row count counts ∷ []) result }
+{
+    match counts {
+        Some(counts) => push_row(out, &[
+            Words("exceptions "), Decimal(count as u64), Words(", of which number "),
+            Decimal(counts as u64), Words(" counts"),
+        ]),
+        None => push_row(out, &[Words("exceptions "), Decimal(count as u64)]),
+    }
+}
+
+// Appends the line of an exception, or of why it can't be read.
+#[rattlefmt::skip]
+#[tactic(auto, unfolding(crate::specs::Exceptions::exception_line))]
+fn push_exception(
+    out: &mut String,
+    number: usize,
+    exception: &Result<CrashException, Error>,
+) -> Added
+    ensures { Adds out.old out.new
+        (exception_line number (map_ok exception_of exception.now) ∷ []) result }
+{
+    match exception {
+        Ok(exception) => push_row(out, &[
+            Words("    #"), Decimal(number as u64), Id(" thread ", Some(exception.thread)),
+            Words(", code "), Hex(exception.code as u64), Words(" at "), Hex(exception.at),
+            HexUnless(exception.at, ", address ", exception.address),
+            TextAfter(", ", &exception.reason), Record(exception),
+            Text(", ", &exception.description, ""),
+            Words(context_words(exception.context_problem)),
+        ]),
+        Err(error) => push_row(out, &[
+            Words("    #"), Decimal(number as u64), Words(" can't be read"), Failed(Some(*error)),
+        ]),
+    }
+}
+
+// Returns the words for why the context of an exception can't be read.
+fn context_words(problem: Option<ContextProblem>) -> &'static str
+    ensures { result.now ≡ context_words problem }
+{
+    match problem {
+        Some(ContextProblem::Outside) => ", its context is outside the file",
+        Some(ContextProblem::NotAccepted { .. }) => ", no context that can be read",
+        Some(ContextProblem::NoSystem) | None => "",
+    }
+}

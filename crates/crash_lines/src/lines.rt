@@ -1,0 +1,90 @@
+ghost use Rattle.std.specs.Prelude.{◌≡◌, [], ◌∷◌, OnErr, string_bytes};
+ghost use Rattle.std.specs.List.{flat_map};
+ghost use Rattle.minidump.specs.Below.Bytes.Piece.{piece_text};
+ghost use Rattle.crash_lines.specs.Lines.{Adds, row_of};
+ghost use Rattle.crash_lines.specs.Parts.{part_text};
+ghost use Rattle.crash_lines.specs.Words.{count_row, if_missing};
+
+use crate::escape::push_escaped;
+use crate::parts::Part::{Decimal, Words};
+use crate::parts::{Part, format_parts};
+use crash::is_missing;
+use minidump::Error;
+use minidump::text::{Piece, format_pieces};
+use std::alloc::AllocError;
+
+/// What a call that appends returns: `AllocError` if an allocation fails.
+pub type Added = Result<(), AllocError>;
+
+/// Appends a line of the pieces, their control characters as escapes, and the end of the line.
+///
+/// Returns `AllocError` if an allocation fails, and then the text is as it was.
+pub fn push_line(out: &mut String, pieces: &[Piece<'_>]) -> Result<(), AllocError>
+    ensures ok { Adds out.old out.new (flat_map piece_text pieces.now ∷ []) result }
+    ensures err { OnErr result (string_bytes out.new ≡ string_bytes out.old) }
+{
+    let text = format_pieces(*out.allocator(), pieces)?;
+    push_text_line(out, text.as_str())
+}
+
+/// Appends the line of a row.
+pub fn push_row(out: &mut String, parts: &[Part<'_>]) -> Added
+    ensures { Adds out.old out.new (flat_map part_text parts.now ∷ []) result }
+{
+    let text = format_parts(*out.allocator(), parts)?;
+    push_text_line(out, text.as_str())
+}
+
+/// Appends the lines of rows: none for a row without a text.
+pub fn push_table(out: &mut String, rows: &[&[Part<'_>]]) -> Added
+    ensures { Adds out.old out.new
+        (flat_map (λ parts. row_of (flat_map part_text parts.now)) rows.now) result }
+{
+    for row in rows {
+        let text = format_parts(*out.allocator(), row)?;
+        push_text_if_any(out, text.as_str())?;
+    }
+    Ok(())
+}
+
+// Appends the line of a text, unless it is empty.
+fn push_text_if_any(out: &mut String, text: &str) -> Added
+    ensures { Adds out.old out.new (row_of text.now) result }
+{
+    match text.as_bytes() {
+        [] => Ok(()),
+        _ => push_text_line(out, text),
+    }
+}
+
+/// Appends the line of a text, its control characters as escapes. If an allocation fails, what there
+/// was is left as it was.
+#[tactic(auto, unfolding(crate::specs::Lines::line_of))]
+pub fn push_text_line(out: &mut String, text: &str) -> Added
+    ensures ok { Adds out.old out.new (text.now ∷ []) result }
+    ensures err { OnErr result (string_bytes out.new ≡ string_bytes out.old) }
+{
+    let mut line = String::new(*out.allocator());
+    push_escaped(&mut line, text)?;
+    line.push('\n')?;
+    out.push_str(line.as_str())
+}
+
+/// Appends the line of the number of something.
+#[tactic(auto, unfolding(crate::specs::Words::count_row))]
+pub fn push_count(out: &mut String, what: &str, count: usize) -> Added
+    ensures { Adds out.old out.new (count_row what.now count ∷ []) result }
+{
+    push_row(out, &[Words(what), Words(" "), Decimal(count as u64)])
+}
+
+/// Appends a line of words if an error says that something is missing.
+pub fn push_if_missing(out: &mut String, words: &str, error: Error) -> Added
+    ensures { Adds out.old out.new (if_missing words.now error) result }
+{
+    if is_missing(error) {
+        push_text_line(out, words)
+    } else {
+        Ok(())
+    }
+}

@@ -1,0 +1,296 @@
+//! The lines of where the thread that crashed stands: an address, its registers, its code and the
+//! words of its stack.
+ghost use Rattle.std.specs.Prelude.{◌≡◌, ◌∷◌, [], map};
+ghost use Rattle.std.specs.List.{list_any};
+ghost use Rattle.std.specs.Option.{option_copied, option_map};
+ghost use Rattle.crash.specs.Addresses.{is_placed};
+ghost use Rattle.crash.specs.Cause.{exception_of};
+ghost use Rattle.crash.specs.Contexts.{context_of};
+ghost use Rattle.crash.specs.Crash.{crash_of};
+ghost use Rattle.crash_streams.specs.Modules.{loaded_of};
+ghost use Rattle.crash.specs.Point.{point_of};
+ghost use Rattle.crash_lines.specs.Addresses.{address_line, thread_id, unloaded_path};
+ghost use Rattle.crash_lines.specs.Lines.{Adds};
+ghost use Rattle.crash_lines.specs.Point.{code_lines, flags_lines, instruction_lines, is_ordinary};
+ghost use Rattle.crash_lines.specs.Point.{placed_heading, placed_lines, placed_registers, point_lines};
+ghost use Rattle.crash_lines.specs.Point.{processor_lines, words_lines};
+ghost use Rattle.crash_lines.specs.Registers.{crashed_context, heading_of, heading_row, known_lines};
+ghost use Rattle.crash_lines.specs.Registers.{register_row, registers_lines, rows, unused_lines};
+
+use crate::lines::{Added, push_row, push_table, push_text_line};
+use crate::parts::Part::{
+    Code, Count, Flags, Hex, HexIf, Id, If, Memory, Names, Place, Registers, Said, Short, Words,
+};
+use crash::{
+    AddressFacts, ContextOrigin, ContextProblem, Crash, CrashContext, CrashException, CrashModule,
+    CrashPoint, ShortContext, StackWord,
+};
+
+// ---- an address
+
+// Appends the line of an address after its name, with `nowhere` if no module has it.
+#[rattlefmt::skip]
+#[tactic(auto, unfolding(crate::specs::Addresses::address_line))]
+pub(crate) fn push_address_line<'t>(
+    out: &mut String,
+    crash: &'t Crash<'_>,
+    indent: &'t str,
+    name: &'t str,
+    nowhere: &'t str,
+    facts: &AddressFacts,
+) -> Added
+    ensures { Adds out.old out.new (address_line (crash_of crash.now) indent.now name.now
+        nowhere.now facts.now ∷ []) result }
+{
+    let modules = crash.modules.loaded.as_slice();
+    let unloaded = unloaded_path(crash, facts.unloaded);
+    let (inside, below) = (thread_id(crash, facts.stack_of), thread_id(crash, facts.below_stack));
+    push_row(out, &[
+        Words(indent), Words(name), Words(" "), Hex(facts.address),
+        Place(modules, nowhere, facts.module), HexIf(", null + ", facts.null_offset),
+        If(!facts.is_canonical, ", not canonical"), Said(", in unloaded ", unloaded),
+        Id(", in the stack of thread ", inside), Id(", below the stack of thread ", below),
+        Memory(facts.memory),
+    ])
+}
+
+// Returns the path of the unloaded module of an index.
+fn unloaded_path<'l>(crash: &'l Crash<'_>, index: Option<usize>) -> Option<&'l str>
+    ensures { option_copied result ≡ unloaded_path (crash_of crash.now) index }
+{
+    Some(crash.modules.unloaded.get(index?)?.path.as_str())
+}
+
+// Returns the id of the thread of an index.
+fn thread_id(crash: &Crash<'_>, index: Option<usize>) -> Option<u32>
+    ensures { result ≡ thread_id (crash_of crash.now) index }
+{
+    Some(crash.threads.threads.get(index?)?.id)
+}
+
+// ---- the registers
+
+// Appends why the context of an exception isn't used, and the registers of the thread that crashed:
+// nothing without the system.
+pub(crate) fn push_registers(
+    out: &mut String,
+    crash: &Crash<'_>,
+    exception: &CrashException,
+) -> Added
+    ensures { Adds out.old out.new
+        (registers_lines (crash_of crash.now) (exception_of exception.now)) result }
+{
+    match &crash.process.system {
+        Some(_) => {
+            push_unused(out, exception.context_problem)?;
+            push_known(out, crashed_context(crash))
+        }
+        None => Ok(()),
+    }
+}
+
+// Appends that the context of an exception is no context of the processor, if it isn't and has
+// bytes.
+#[rattlefmt::skip]
+#[tactic(auto, unfolding(crate::specs::Registers::unused_lines))]
+fn push_unused(out: &mut String, problem: Option<ContextProblem>) -> Added
+    ensures { Adds out.old out.new (unused_lines problem) result }
+{
+    match problem {
+        Some(ContextProblem::NotAccepted { size }) => push_table(out, &[
+            &[Count("the context of the exception can't be read, ", size, " bytes")],
+        ]),
+        _ => Ok(()),
+    }
+}
+
+// Returns the registers of the thread that crashed.
+fn crashed_context<'l>(crash: &'l Crash<'_>) -> Option<&'l CrashContext>
+    ensures { option_map context_of (option_copied result) ≡ crashed_context (crash_of crash.now) }
+{
+    crash.threads.crashed()?.1.context.as_ref()
+}
+
+// Appends registers, or that there are none.
+fn push_known(out: &mut String, context: Option<&CrashContext>) -> Added
+    ensures { Adds out.old out.new
+        (known_lines (option_map context_of (option_copied context.entry))) result }
+{
+    match context {
+        Some(context) => {
+            push_heading(out, context.origin, context.short)?;
+            push_rows(out, context.registers.as_slice(), context.size)
+        }
+        None => push_text_line(out, "no registers that can be read"),
+    }
+}
+
+// Appends the line of whose registers they are, and how much of their context there is, if it is
+// cut.
+#[tactic(auto, unfolding(crate::specs::Registers::heading_row))]
+fn push_heading(out: &mut String, origin: ContextOrigin, short: Option<ShortContext>) -> Added
+    ensures { Adds out.old out.new (heading_row origin short ∷ []) result }
+{
+    push_row(out, &[Words(heading_of(origin)), Short(", from a ", short)])
+}
+
+// Returns the words for whose registers they are.
+fn heading_of(origin: ContextOrigin) -> &'static str
+    ensures { result.now ≡ heading_of origin }
+{
+    match origin {
+        ContextOrigin::OfException => "registers at the exception",
+        ContextOrigin::OfThread => "registers of the thread when the dump was written",
+    }
+}
+
+// Appends the rows of registers of `size` bytes each, four a row.
+fn push_rows(out: &mut String, registers: &[(&'static str, u64)], size: usize) -> Added
+    ensures { Adds out.old out.new (map (register_row size)
+        (rows (map (λ r. (r.0.now, r.1)) registers.now))) result }
+{
+    for row in registers.chunks(4) {
+        push_row(out, &[Words("  "), Registers(size, row)])?;
+    }
+    Ok(())
+}
+
+// ---- where the thread stands
+
+// Appends the lines of where the thread that crashed stands, if that is known.
+pub(crate) fn push_point(out: &mut String, crash: &Crash<'_>) -> Added
+    ensures { Adds out.old out.new (point_lines (crash_of crash.now)) result }
+{
+    match &crash.point {
+        Some(point) => {
+            push_processor(out, crash, point)?;
+            push_instruction(out, crash, &point.instruction)?;
+            push_code(out, point.instruction.address, point.code)?;
+            push_stack_words(out, crash.modules.loaded.as_slice(), point.words.as_slice())
+        }
+        None => Ok(()),
+    }
+}
+
+// Appends the lines of the flags and the registers of a thread.
+fn push_processor(out: &mut String, crash: &Crash<'_>, point: &CrashPoint<'_>) -> Added
+    ensures { Adds out.old out.new
+        (processor_lines (crash_of crash.now) (point_of point.now)) result }
+{
+    push_flags_lines(out, point.flags.as_slice(), point.set_flags.as_slice())?;
+    push_placed_registers(out, crash, point.registers.as_slice())?;
+    Ok(())
+}
+
+// Appends the line of the flags and the segments, and that of the flags that are set, if there are
+// any.
+#[rattlefmt::skip]
+#[tactic(auto, unfolding(crate::specs::Point::flags_lines))]
+fn push_flags_lines<'x>(
+    out: &mut String,
+    flags: &'x [(&'static str, u64)],
+    set: &'x [&'static str],
+) -> Added
+    ensures { Adds out.old out.new (flags_lines (map (λ r. (r.0.now, r.1)) flags.now)
+        (map (λ name. name.now) set.now)) result }
+{
+    push_table(out, &[&[Words("  "), Flags(flags)], &[Names("    flags set:", set)]])
+}
+
+// Appends the registers whose values lie in a module or a stack, after a heading if there are any.
+#[tactic(auto, unfolding(crate::specs::Point::placed_registers))]
+fn push_placed_registers(
+    out: &mut String,
+    crash: &Crash<'_>,
+    registers: &[(&'static str, AddressFacts)],
+) -> Added
+    ensures { Adds out.old out.new (placed_registers (crash_of crash.now)
+        (map (λ r. (r.0.now, r.1)) registers.now)) result }
+{
+    push_placed_heading(out, registers)?;
+    for register in registers {
+        push_if_placed(out, crash, register.0, &register.1)?;
+    }
+    Ok(())
+}
+
+// Appends the line of a register, if its value lies in a module or a stack.
+fn push_if_placed(out: &mut String, crash: &Crash<'_>, name: &str, facts: &AddressFacts) -> Added
+    ensures { Adds out.old out.new
+        (placed_lines (crash_of crash.now) (name.now, facts.now)) result }
+{
+    if facts.is_placed() {
+        push_address_line(out, crash, "    ", name, "", facts)
+    } else {
+        Ok(())
+    }
+}
+
+// Appends the heading of those registers, if there are any.
+fn push_placed_heading(out: &mut String, registers: &[(&'static str, AddressFacts)]) -> Added
+    ensures { Adds out.old out.new
+        (placed_heading (map (λ r. (r.0.now, r.1)) registers.now)) result }
+{
+    if has_placed(registers) {
+        push_text_line(out, "registers in a module or a stack")
+    } else {
+        Ok(())
+    }
+}
+
+// Tells whether the value of one of registers lies in a module or a stack.
+fn has_placed(registers: &[(&'static str, AddressFacts)]) -> bool
+    ensures { result ≡ list_any (λ r. is_placed r.1) registers.now }
+{
+    registers.iter().any(|register| register.1.is_placed())
+}
+
+// Appends the line of an instruction pointer, unless it is ordinary.
+fn push_instruction(out: &mut String, crash: &Crash<'_>, facts: &AddressFacts) -> Added
+    ensures { Adds out.old out.new (instruction_lines (crash_of crash.now) facts.now) result }
+{
+    if is_ordinary(facts) {
+        Ok(())
+    } else {
+        push_address_line(out, crash, "", "instruction", " in no module", facts)
+    }
+}
+
+// Tells whether an address is ordinary for code: a module has it, and its memory may be run as code
+// or isn't known.
+fn is_ordinary(facts: &AddressFacts) -> bool
+    ensures { result ≡ is_ordinary facts.now }
+{
+    match (facts.module, facts.memory) {
+        (Some(_), Some(memory)) => memory.is_executable,
+        (Some(_), None) => true,
+        (None, _) => false,
+    }
+}
+
+// Appends the line of the bytes at an address, if there are any.
+#[tactic(auto, unfolding(crate::specs::Point::code_lines))]
+fn push_code(out: &mut String, address: u64, code: &[u8]) -> Added
+    ensures { Adds out.old out.new (code_lines address code.now) result }
+{
+    push_table(out, &[&[Code(address, code)]])
+}
+
+// Appends the words of a stack, after a heading if there are any.
+#[rattlefmt::skip]
+#[tactic(auto, unfolding(crate::specs::Point::word_line))]
+fn push_stack_words(out: &mut String, modules: &[CrashModule], words: &[StackWord]) -> Added
+    ensures { Adds out.old out.new (words_lines (map loaded_of modules.now) words.now) result }
+{
+    if words.is_empty() {
+        return Ok(());
+    }
+    push_text_line(out, "words at the stack pointer")?;
+    for word in words {
+        push_row(out, &[
+            Words("    "), Hex(word.address), Words(" "), Hex(word.value),
+            Place(modules, "", word.module),
+        ])?;
+    }
+    Ok(())
+}

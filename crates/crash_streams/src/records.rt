@@ -1,0 +1,299 @@
+//! What the record of an exception says, by itself and by its system.
+ghost use Rattle.std.specs.Prelude.{◌≡◌, ◌%◌, ◌^◌, IfOk, string_bytes};
+ghost use Rattle.std.specs.Option.{option_copied, option_map};
+ghost use Rattle.minidump.specs.Promise.{system_info_stream};
+ghost use Rattle.crash_streams.specs.Records.{access_in, description_in, is_access, is_protection, is_sent};
+ghost use Rattle.crash_streams.specs.Records.{lacks_address, may_be_instruction, parameters_in, sender_by};
+ghost use Rattle.crash_streams.specs.Records.{sender_in, signal_code, signal_code_name, user_at};
+
+use crate::process_texts::before_nul;
+use minidump::MinidumpSystemInfo;
+use minidump::format::MINIDUMP_EXCEPTION;
+use minidump::strings::LinuxOsStr;
+use minidump::system_info::{Cpu, Os, PointerWidth};
+use std::alloc::{AllocError, Global};
+
+const EXCEPTION_ACCESS_VIOLATION: u32 = 0xc000_0005;
+
+const EXCEPTION_IN_PAGE_ERROR: u32 = 0xc000_0006;
+// The flags of a record of LLDB, which is llvm's `LLDB_FLAG`.
+const LLDB_FLAG: u32 = 0x4c4c_4442;
+
+const SIGILL: u32 = 4;
+
+const SIGTRAP: u32 = 5;
+
+const SIGBUS: u32 = 7;
+
+const SIGFPE: u32 = 8;
+
+const SIGSEGV: u32 = 11;
+
+const SIGPOLL: u32 = 29;
+
+const SIGSYS: u32 = 31;
+
+const SI_USER: u32 = 0;
+
+const SI_QUEUE: u32 = 0xffff_ffff;
+
+const SI_TKILL: u32 = 0xffff_fffa;
+
+const SI_KERNEL: u32 = 0x80;
+
+const SEGV_MTEAERR: u32 = 8;
+
+const SEGV_CPERR: u32 = 10;
+
+const BUS_ADRALN: u32 = 1;
+
+const EXC_BAD_ACCESS: u32 = 1;
+
+const EXC_I386_GPFLT: u32 = 13;
+
+/// How memory was accessed.
+#[derive(Clone, Copy, PartialEq, Eq)]
+pub enum Access {
+    /// It was read: 0 in the record.
+    Read,
+    /// It was written: 1.
+    Write,
+    /// It was run as code: 8.
+    Execute,
+}
+
+/// The `si_code` of a signal that a process sent.
+#[derive(Clone, Copy, PartialEq, Eq)]
+pub enum SignalCode {
+    /// It was sent by `kill`: SI_USER, 0.
+    User,
+    /// It was sent by `sigqueue`: SI_QUEUE, -1.
+    Queue,
+    /// It was sent to a thread, as by `tgkill` or `raise`: SI_TKILL, -6.
+    Tkill,
+}
+
+impl SignalCode {
+    /// Returns its name in Linux's headers, as `SI_USER`.
+    pub fn name(self) -> &'static str
+        ensures { result.now ≡ signal_code_name self }
+    {
+        match self {
+            SignalCode::User => "SI_USER",
+            SignalCode::Queue => "SI_QUEUE",
+            SignalCode::Tkill => "SI_TKILL",
+        }
+    }
+}
+
+/// The process that sent a signal.
+#[derive(Clone, Copy, PartialEq, Eq)]
+pub struct Sender {
+    /// The `si_code`, which is the flags of the record.
+    pub code: SignalCode,
+    /// The id of the process, `si_pid`: 0 if it is outside of the receiver's namespace, and `None`
+    /// where the record has no bytes of it. By SI_USER it is neither, since a record that has no
+    /// `si_code` has 0 there, too.
+    pub process: Option<u32>,
+    /// The id of its user, `si_uid`, or `None` where the record has no bytes of it, as in an address of
+    /// 32 bits.
+    pub user: Option<u32>,
+}
+
+/// Returns the parameters of a record.
+pub fn parameters_of(alloc: Global, raw: &MINIDUMP_EXCEPTION) -> Result<Vec<u64>, AllocError>
+    ensures { IfOk result (λ parameters. parameters.items ≡ parameters_in raw.now) }
+{
+    let count = raw.number_parameters.min(15) as usize;
+    let mut parameters = Vec::new(alloc);
+    parameters.extend_from_slice(&raw.exception_information[..count])?;
+    Ok(parameters)
+}
+
+/// Makes the text that LLDB writes in the parameters of a record, if it wrote the record and the text
+/// isn't empty.
+pub fn description_of(alloc: Global, raw: &MINIDUMP_EXCEPTION) -> Result<Option<String>, AllocError>
+    ensures { IfOk result (λ text. option_map string_bytes text ≡ description_in raw.now) }
+{
+    if raw.exception_flags != LLDB_FLAG {
+        return Ok(None);
+    }
+    let mut bytes = Vec::new(alloc);
+    for parameter in &raw.exception_information {
+        bytes.extend_from_slice(&parameter.to_le_bytes())?;
+    }
+    let text = before_nul(bytes.as_slice());
+    if text.is_empty() {
+        return Ok(None);
+    }
+    Ok(Some(LinuxOsStr::from_bytes(text).to_string_lossy(alloc)?))
+}
+
+/// Returns how memory was accessed, if the record says it: by the first parameter of an access of
+/// Windows.
+pub fn access_of(system: Option<&MinidumpSystemInfo>, raw: &MINIDUMP_EXCEPTION) -> Option<Access>
+    ensures { result ≡ access_in
+        (option_map system_info_stream.value (option_copied system.entry)) raw.now }
+{
+    let system = system?;
+    let has_access = matches!(system.os, Os::Windows)
+        && is_access(Os::Windows, raw.exception_code)
+        && raw.number_parameters >= 1
+        && raw.exception_flags != LLDB_FLAG
+        && !is_protection(system.cpu, raw);
+    match raw.exception_information[0] {
+        0 if has_access => Some(Access::Read),
+        1 if has_access => Some(Access::Write),
+        8 if has_access => Some(Access::Execute),
+        _ => None,
+    }
+}
+
+// Tells whether an exception of an operating system is an access to memory, by its code.
+fn is_access(os: Os, code: u32) -> bool
+    ensures { result ≡ is_access os code }
+{
+    match os {
+        Os::Linux | Os::Android => code == SIGBUS || code == SIGSEGV,
+        Os::MacOs | Os::Ios => code == EXC_BAD_ACCESS,
+        Os::Windows => code == EXCEPTION_ACCESS_VIOLATION || code == EXCEPTION_IN_PAGE_ERROR,
+        _ => false,
+    }
+}
+
+// Tells whether a record of Windows is that of a general protection: a read of the last address.
+fn is_protection(cpu: Cpu, raw: &MINIDUMP_EXCEPTION) -> bool
+    ensures { result ≡ is_protection cpu raw.now }
+{
+    let address = raw.exception_information[1];
+    let is_last = match cpu {
+        Cpu::X86 => address % 0x1_0000_0000 == 0xffff_ffff,
+        Cpu::X86_64 => address == 0xffff_ffff_ffff_ffff,
+        _ => false,
+    };
+    raw.exception_code == EXCEPTION_ACCESS_VIOLATION
+        && raw.number_parameters >= 2
+        && raw.exception_information[0] == 0
+        && is_last
+}
+
+/// Tells whether the record of an exception has no address of a crash.
+pub fn lacks_address(os: Os, cpu: Cpu, raw: &MINIDUMP_EXCEPTION) -> bool
+    ensures { result ≡ lacks_address os cpu raw.now }
+{
+    let (code, flags) = (raw.exception_code, raw.exception_flags);
+    let is_0 = raw.exception_address == 0;
+    match os {
+        Os::Linux | Os::Android => is_0
+            && match code {
+                SIGILL | SIGTRAP | SIGFPE => flags == SI_KERNEL,
+                SIGBUS => flags == SI_KERNEL || flags == BUS_ADRALN,
+                SIGSEGV => flags == SI_KERNEL || flags == SEGV_MTEAERR || flags == SEGV_CPERR,
+                _ => true,
+            },
+        Os::MacOs => is_0 && code == EXC_BAD_ACCESS && flags == EXC_I386_GPFLT,
+        Os::Windows => {
+            let has_text = flags == LLDB_FLAG && is_access(os, code) && raw.number_parameters >= 2;
+            has_text || is_protection(cpu, raw)
+        }
+        _ => false,
+    }
+}
+
+/// Tells whether the address of an access may be that of the instruction: whether the flags don't say
+/// why the access failed.
+pub fn may_be_instruction(os: Os, raw: &MINIDUMP_EXCEPTION) -> bool
+    ensures { result ≡ may_be_instruction os raw.now }
+{
+    let flags = raw.exception_flags;
+    is_access(os, raw.exception_code)
+        && (flags == LLDB_FLAG || flags == 0 && !matches!(os, Os::Windows))
+}
+
+/// Returns the process that sent the signal, if one did.
+pub fn sender_of(system: Option<&MinidumpSystemInfo>, raw: &MINIDUMP_EXCEPTION) -> Option<Sender>
+    ensures { result ≡ sender_in
+        (option_map system_info_stream.value (option_copied system.entry)) raw.now }
+{
+    let system = system?;
+    let is_signal = raw.exception_code >= 1 && raw.exception_code <= 64;
+    match (system.os, signal_code(raw.exception_flags)) {
+        (Os::Linux | Os::Android, Some(code)) if is_signal => {
+            let sender = sender_by(code, system.cpu.pointer_width(), raw);
+            if is_sent(code, raw, sender.process) {
+                Some(sender)
+            } else {
+                None
+            }
+        }
+        _ => None,
+    }
+}
+
+// Returns the code of a signal that a process sends.
+fn signal_code(si_code: u32) -> Option<SignalCode>
+    ensures { result ≡ signal_code si_code }
+{
+    match si_code {
+        SI_USER => Some(SignalCode::User),
+        SI_QUEUE => Some(SignalCode::Queue),
+        SI_TKILL => Some(SignalCode::Tkill),
+        _ => None,
+    }
+}
+
+// Tells whether a process sent the signal of a record, by its code and the number of the process: by
+// SI_USER, if that can be a process, and the record isn't that of an access near 0.
+fn is_sent(code: SignalCode, raw: &MINIDUMP_EXCEPTION, process: Option<u32>) -> bool
+    ensures { result ≡ is_sent code raw.now process }
+{
+    let is_access = raw.exception_code == SIGBUS || raw.exception_code == SIGSEGV;
+    let is_near_0 = raw.exception_address >= 1 && raw.exception_address < 0x40_0000;
+    match (code, process) {
+        (SignalCode::User, Some(number)) => {
+            number >= 1 && number < 0x40_0000 && !(is_access && is_near_0)
+        }
+        (SignalCode::User, None) => false,
+        (SignalCode::Queue | SignalCode::Tkill, _) => true,
+    }
+}
+
+// Returns the sender of a signal, if it was sent: by the address, else by the parameters.
+fn sender_by(code: SignalCode, width: PointerWidth, raw: &MINIDUMP_EXCEPTION) -> Sender
+    ensures { result ≡ sender_by code width raw.now }
+{
+    let (first, second) = (raw.exception_information[0], raw.exception_information[1]);
+    let is_poll_or_sys = raw.exception_code == SIGPOLL || raw.exception_code == SIGSYS;
+    let address = raw.exception_address;
+    let (process, user) = if address != 0 {
+        (Some(low(address)), high(width, address))
+    } else if raw.number_parameters < 2 {
+        (None, None)
+    } else if is_poll_or_sys && !matches!(width, PointerWidth::Bits32) {
+        (Some(low(first)), high(width, first))
+    } else {
+        (Some(low(first)), Some(low(second)))
+    };
+    Sender {
+        code,
+        process,
+        user,
+    }
+}
+
+// Returns the low half of a number.
+fn low(number: u64) -> u32
+    ensures { result ≡ number % 2 ^ 32 }
+{
+    (number % 0x1_0000_0000) as u32
+}
+
+// Returns the high half of an address, if it has one.
+fn high(width: PointerWidth, address: u64) -> Option<u32>
+    ensures { result ≡ user_at width address }
+{
+    match width {
+        PointerWidth::Bits32 => None,
+        _ => Some((address / 0x1_0000_0000) as u32),
+    }
+}

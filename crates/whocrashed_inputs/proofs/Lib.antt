@@ -1,0 +1,4 @@
+mod NumberLemmas
+-- (cited by `whocrashed`)
+pub mod SymbolLemmas
+mod Utf8Lemmas
