@@ -14,13 +14,13 @@
 //!
 //! # What is proved
 //!
-//! - The options are those that the arguments ask for, by the text that clap found for each, and none
-//!   that is refused: [`Options::read`], by `AreAskedFor` in `read_by`, and by `is_refused`.
+//! - The options are those that the arguments ask for by some command of clap, each by the text that
+//!   clap found for it, and none that is refused: [`Options::read`], by `AreAskedFor` and `is_refused`.
 //! - The dumps are the values of the argument `DUMP`, and after them the paths of the list, both in
 //!   their order: [`dumps_in`]. What is read of a file is all of it, or nothing if it has more bytes than
 //!   the limit: `read_to_limit`.
 //! - A symbol file says what its text says, and stands only at modules whose file it is: `kept`,
-//!   [`SymbolCache::find`].
+//!   [`SymbolCache::find`]. The cache goes on to look in the same directories, with the same limit.
 //!
 //! What isn't: of which arguments clap is told, which file a path opens, and in which directory a symbol
 //! file is found.

@@ -1,5 +1,6 @@
 ghost use Rattle.std.specs.Prelude.{◌≡◌, IfOk, false, is_some, map};
 ghost use Rattle.clap.specs.Words.{found_of};
+ghost use Rattle.clap.specs.declared.builder.command.Command.{Command};
 ghost use Rattle.whocrashed_inputs.specs.Options.{AreAskedFor, AreOptions, IsFlag, IsNumber, form_by};
 ghost use Rattle.whocrashed_inputs.specs.Options.{has_several_inputs, is_refused, values_in};
 
@@ -114,7 +115,9 @@ impl<'w> Options<'w> {
     /// Reads the arguments, without the program's own name. Returns clap's error if they are
     /// malformed or refused, and if they ask for the help or the version.
     pub fn read(alloc: Global, words: &'w [String]) -> Result<Options<'w>, Error>
-        ensures { IfOk result (λ options. is_refused options.form options.frames
+        ensures asked { IfOk result (λ options. (command : Command)
+            × AreAskedFor command words.entry.now options) }
+        ensures accepted { IfOk result (λ options. is_refused options.form options.frames
             (map (λ p. p.now) options.dumps.items) options.are_listed ≡ false) }
     {
         read_by(alloc, &mut command(alloc)?, words)

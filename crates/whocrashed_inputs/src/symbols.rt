@@ -35,10 +35,10 @@ type Found = Result<&'static SymbolFile<'static>, NoSymbols>;
 #[derive(Drop)]
 pub struct SymbolCache<'l> {
     rt: &'l HostRuntime,
-    // the directories in which they are looked for, of which the first that has a file counts
-    dirs: &'l [&'l str],
-    // the most bytes of a file
-    limit: usize,
+    /// The directories in which they are looked for, of which the first that has a file counts.
+    pub dirs: &'l [&'l str],
+    /// The most bytes of a file.
+    pub limit: usize,
     // by their paths below a directory; those that are missing are left out, and those for which
     // memory ran out before they were read
     files: BTreeMap<String, Found>,
@@ -71,6 +71,8 @@ impl<'l> SymbolCache<'l> {
             → IsSound (map loaded_of modules.now) (known_of symbols.new) }
         ensures asked { (j : ℕ) → j < length wanted.now
             → IsAsked (known_of symbols.new).states (slice_index wanted.now j) }
+        ensures dirs { self.new.dirs ≡ self.old.dirs }
+        ensures limit { self.new.limit ≡ self.old.limit }
     {
         for index in wanted {
             let found = self.file_of(modules, *index);
@@ -81,7 +83,9 @@ impl<'l> SymbolCache<'l> {
 
     // Returns the symbol file of the module of an index.
     fn file_of(&mut self, modules: &[CrashModule], index: usize) -> Found
-        ensures { IfOk result (λ file. (m : LoadedValue) → slice_get (map loaded_of modules.now) index ≡ Some m
+        ensures dirs { self.new.dirs ≡ self.old.dirs }
+        ensures limit { self.new.limit ≡ self.old.limit }
+        ensures file { IfOk result (λ file. (m : LoadedValue) → slice_get (map loaded_of modules.now) index ≡ Some m
             → is_of_module (symbols_of file.now) m ≡ true) }
     {
         let Some(loaded) = modules.get(index) else {
@@ -96,7 +100,10 @@ impl<'l> SymbolCache<'l> {
 
     // Returns the symbol file that has this path below a directory. One that is missing, or for which
     // memory ran out before it was read, is looked for again the next time.
-    fn file_at(&mut self, path: String) -> Found {
+    fn file_at(&mut self, path: String) -> Found
+        ensures dirs { self.new.dirs ≡ self.old.dirs }
+        ensures limit { self.new.limit ≡ self.old.limit }
+    {
         if let Some(found) = self.files.get(path.as_str()) {
             return *found;
         }

@@ -1,5 +1,5 @@
 -- One module more.
-use Rattle.std.proofs.Common.{◌≡◌, map, refl}
+use Rattle.std.proofs.Common.{◌≡◌, ◌∙◌, map, refl}
 use Rattle.std.proofs.lemmas.List.{map-set}
 use Rattle.std.specs.List.{slice_set}
 use Rattle.std.specs.Prelude.{slice_index}
@@ -24,7 +24,9 @@ loop-index-preserved c =
     let states : new.states ≡ slice_set old.states index (state_read found) = rw (c.set_at-in-loop-index.ensures, c.state_read.ensures) refl in
     let asked = asked_with modules old new index found files states in
     record {
-      sound = λ was. sound_with modules old new index found files states c.file_of-found.ensures (c.loop-index.invariant.sound was);
+      sound = λ was. sound_with modules old new index found files states c.file_of-found.ensures.file (c.loop-index.invariant.sound was);
       asked = below_more (λ j. IsAsked new.states (slice_index wanted j)) c.loop-index.index-index
           (λ j before. asked _ (λ apart. c.loop-index.invariant.asked j before)) (asked index (λ apart. absurd (apart refl)));
+      dirs = c.file_of-found.ensures.dirs ∙ c.loop-index.invariant.dirs;
+      limit = c.file_of-found.ensures.limit ∙ c.loop-index.invariant.limit;
     }

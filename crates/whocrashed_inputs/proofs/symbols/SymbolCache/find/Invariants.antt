@@ -1,5 +1,5 @@
--- What is known is as sound as it was, and no module so far is unwanted.
-use Rattle.std.proofs.Common.{◌<◌, ℕ, map}
+-- What is known is as sound as it was, no module so far is unwanted, and the cache looks where it did.
+use Rattle.std.proofs.Common.{◌≡◌, ◌<◌, ℕ, map}
 use Rattle.std.specs.Prelude.{slice_index}
 use Rattle.crash_streams.specs.Modules.{loaded_of}
 use Rattle.crash_symbols.specs.Symbols.{known_of}
@@ -10,4 +10,6 @@ abbrev pub invariant-loop-index : goal.invariant-loop-index
 invariant-loop-index l = record {
   sound : IsSound (map loaded_of l.modules) (known_of l.fn.symbols) → IsSound (map loaded_of l.modules) (known_of l.symbols);
   asked : (j : ℕ) → j < l.index-index → IsAsked (known_of l.symbols).states (slice_index l.wanted j);
+  dirs : l.self.dirs ≡ l.fn.self.dirs;
+  limit : l.self.limit ≡ l.fn.self.limit;
 }
