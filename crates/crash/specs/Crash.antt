@@ -9,15 +9,15 @@ use Rattle.minidump.specs.Dump.{Dump, dump_in}
 use Rattle.stack_walk.specs.Frames.{StackValue}
 use Rattle.crash.specs.declared.crash.Crash.{Crash}
 use Rattle.crash.specs.declared.damage.Damage.{Damage}
-use Rattle.crash.specs.Cause.{CauseValue, cause_in, cause_of}
+use Rattle.crash_threads.specs.Cause.{CauseValue, cause_in, cause_of}
 use Rattle.crash_streams.specs.Contents.{ContentsValue, contents_in, contents_of}
 use Rattle.crash.specs.Damage.{counted_damage, damage_by}
-use Rattle.crash_streams.specs.Directory.{DirectoryValue, directory_in, directory_of}
-use Rattle.crash_streams.specs.Modules.{ModulesValue, modules_in, modules_of}
-use Rattle.crash.specs.Point.{PointValue, point_in, point_of}
-use Rattle.crash_streams.specs.Process.{ProcessFacts, process_in, process_of}
-use Rattle.crash.specs.Frames.{code_bits_in}
-use Rattle.crash.specs.Threads.{ThreadsValue, threads_in, threads_of, walked_at}
+use Rattle.crash_process.specs.Directory.{DirectoryValue, directory_in, directory_of}
+use Rattle.crash_process.specs.Modules.{ModulesValue, modules_in, modules_of}
+use Rattle.crash_threads.specs.Point.{PointValue, point_in, point_of}
+use Rattle.crash_process.specs.Process.{ProcessFacts, process_in, process_of}
+use Rattle.crash_threads.specs.Frames.{code_bits_in}
+use Rattle.crash_threads.specs.Threads.{ThreadsValue, threads_in, threads_of, walked_at}
 
 -- a crash: the streams, and what is found in them
 pub record CrashValue : Type 0 where

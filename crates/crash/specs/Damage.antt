@@ -19,16 +19,16 @@ use Rattle.minidump.specs.Below.System.System.{System}
 use Rattle.minidump.specs.Exception.{Exception}
 use Rattle.minidump.specs.Promise.{assertion_stream, handle_data_stream, mac_bootargs_stream}
 use Rattle.minidump.specs.Promise.{mac_crash_info_stream, system_info_stream, thread_names_stream}
-use Rattle.crash.specs.declared.contexts.ContextProblem.{ContextProblem}
-use Rattle.crash.specs.declared.contexts.ContextProblem.TheVariants.{Outside}
+use Rattle.crash_threads.specs.declared.contexts.ContextProblem.{ContextProblem}
+use Rattle.crash_threads.specs.declared.contexts.ContextProblem.TheVariants.{Outside}
 use Rattle.crash.specs.declared.damage.Damage.{Damage}
 use Rattle.crash.specs.declared.damage.Damage.TheVariants as damage
-use Rattle.crash_streams.specs.declared.directory.StreamEntry.{StreamEntry}
-use Rattle.crash.specs.Cause.{ExceptionValue}
+use Rattle.crash_process.specs.declared.directory.StreamEntry.{StreamEntry}
+use Rattle.crash_threads.specs.Cause.{ExceptionValue}
 use Rattle.crash_streams.specs.Contents.{ContentsValue}
-use Rattle.crash_streams.specs.ProcessTexts.{CommentsValue}
-use Rattle.crash_streams.specs.Directory.{DirectoryValue}
-use Rattle.crash.specs.Threads.{ThreadValue}
+use Rattle.crash_process.specs.ProcessTexts.{CommentsValue}
+use Rattle.crash_process.specs.Directory.{DirectoryValue}
+use Rattle.crash_threads.specs.Threads.{ThreadValue}
 
 -- ---- texts: none is where an entry names one by its RVA, or a surrogate of its UTF-16 lacks its partner
 

@@ -4,21 +4,21 @@ ghost use Rattle.minidump.specs.Below.Contexts.Context.{map_ok};
 ghost use Rattle.minidump.specs.Below.Format.Answer.{Gives};
 ghost use Rattle.minidump.specs.Dump.{dump_in};
 ghost use Rattle.minidump.specs.DumpValue.{dump_of};
-ghost use Rattle.crash.specs.Cause.{cause_of};
+ghost use Rattle.crash_threads.specs.Cause.{cause_of};
 ghost use Rattle.crash_streams.specs.Contents.{contents_in, contents_of};
 ghost use Rattle.crash.specs.Crash.{crash_by, crash_in, crash_of, damage_in, status_of, walked_in};
-ghost use Rattle.crash.specs.Frames.{walked_of};
-ghost use Rattle.crash_streams.specs.Directory.{directory_of};
-ghost use Rattle.crash_streams.specs.Process.{process_of};
-ghost use Rattle.crash.specs.Threads.{threads_of};
+ghost use Rattle.crash_threads.specs.Frames.{walked_of};
+ghost use Rattle.crash_process.specs.Directory.{directory_of};
+ghost use Rattle.crash_process.specs.Process.{process_of};
+ghost use Rattle.crash_threads.specs.Threads.{threads_of};
 
-use crate::cause::{CrashCause, cause_of};
 use crate::damage::{Damage, counted_damage, damage_of};
-use crate::point::{CrashPoint, point_of};
-use crate::threads::{CrashThreads, threads_of, walked_at};
-use crash_streams::{
-    Contents, CrashDirectory, CrashModules, CrashProcess, directory_of, modules_of, process_of,
-    read_contents,
+use crash_process::{
+    CrashDirectory, CrashModules, CrashProcess, directory_of, modules_of, process_of,
+};
+use crash_streams::{Contents, read_contents};
+use crash_threads::{
+    CrashCause, CrashPoint, CrashThreads, cause_of, point_of, threads_of, walked_at,
 };
 use minidump::{CodeNames, Error, Minidump, MinidumpContext};
 use stack_walk::Stack;

@@ -6,21 +6,20 @@ ghost use Rattle.minidump.specs.Below.Records.NamedText.{lacks_text};
 ghost use Rattle.minidump.specs.Promise.{assertion_stream, exception_stream, handle_data_stream};
 ghost use Rattle.minidump.specs.Promise.{mac_bootargs_stream, mac_crash_info_stream};
 ghost use Rattle.minidump.specs.Promise.{system_info_stream, thread_names_stream};
-ghost use Rattle.crash.specs.Cause.{exception_of};
+ghost use Rattle.crash_threads.specs.Cause.{exception_of};
 ghost use Rattle.crash_streams.specs.Contents.{contents_of};
 ghost use Rattle.crash.specs.Damage.{assertion_lacking, boot_args_lacking, context_damage};
 ghost use Rattle.crash.specs.Damage.{counted_damage, damage_by, exception_damage, exception_error};
 ghost use Rattle.crash.specs.Damage.{handles_lacking, if_any, names_lacking, parameters_damage};
 ghost use Rattle.crash.specs.Damage.{records_lacking, stack_damage, stream_damage, system_lacking};
 ghost use Rattle.crash.specs.Damage.{texts_damage, threads_lacking};
-ghost use Rattle.crash_streams.specs.Directory.{directory_of};
-ghost use Rattle.crash_streams.specs.ProcessTexts.{comments_of};
-ghost use Rattle.crash.specs.Threads.{thread_value};
+ghost use Rattle.crash_process.specs.Directory.{directory_of};
+ghost use Rattle.crash_process.specs.ProcessTexts.{comments_of};
+ghost use Rattle.crash_threads.specs.Threads.{thread_value};
 
-use crate::cause::CrashException;
-use crate::contexts::ContextProblem;
-use crate::threads::CrashThread;
-use crash_streams::{Comments, Contents, CrashDirectory, StreamEntry};
+use crash_process::{Comments, CrashDirectory, StreamEntry};
+use crash_streams::Contents;
+use crash_threads::{ContextProblem, CrashException, CrashThread};
 use minidump::format::MINIDUMP_STREAM_TYPE;
 use minidump::{
     Error, MinidumpAssertion, MinidumpException, MinidumpHandleDataStream,

@@ -11,28 +11,28 @@ use Rattle.minidump.specs.declared.Error.{Error}
 use Rattle.minidump.specs.Below.Records.Crashpad.{Crashpad}
 use Rattle.minidump.specs.Below.Records.CrashpadText.{annotation_text}
 use Rattle.minidump.specs.Below.Records.Pairs.{pairs_of}
-use Rattle.crash.specs.declared.addresses.AddressFacts.{AddressFacts}
+use Rattle.crash_threads.specs.declared.addresses.AddressFacts.{AddressFacts}
 use Rattle.crash.specs.declared.damage.Damage.{Damage}
-use Rattle.crash.specs.declared.damage.Damage.TheVariants.{Entries, Exception, ExceptionContext, Modules, Parameters, Records, Regions, Stack, Stream, Texts, ThreadContext}
-use Rattle.crash.specs.Cause.{ExceptionValue}
+use Rattle.crash.specs.declared.damage.Damage.TheVariants.{Stream}
+use Rattle.crash_threads.specs.Cause.{ExceptionValue}
 use Rattle.crash.specs.Crash.{CrashValue}
-use Rattle.crash_streams.specs.Modules.{LoadedValue}
-use Rattle.crash.specs.Point.{PointValue}
-use Rattle.crash.specs.Threads.{ThreadValue, crashed_thread}
+use Rattle.crash_process.specs.Modules.{LoadedValue}
+use Rattle.crash_threads.specs.Point.{PointValue}
+use Rattle.crash_threads.specs.Threads.{ThreadValue, crashed_thread}
 use Rattle.crash_symbols.specs.Names.{NamedFrameValue}
 use Rattle.crash_symbols.specs.Shown.{SymbolizedValue}
-use Rattle.crash_json.specs.Tree.{count, hex_string, members_of}
-use Rattle.crash_json.proofs.TreeDepth.{all_within, array_within, both_within, flat, numbered_array_within, or_null_within}
+use Rattle.crash_json.specs.Tree.{array_of, count, hex_string, members_of}
+use Rattle.crash_json.proofs.TreeDepth.{array_within, both_within, flat, numbered_array_within, or_null_within}
 use Rattle.crash_json.specs.declared.JsonLimits.{JsonLimits}
-use Rattle.crash_json.specs.Cause.{address_json, address_members, crash_info_json, exception_json, memory_json, read_json, sender_json, unread_json}
+use Rattle.crash_json.specs.Cause.{address_json, address_members, crash_info_json, exception_json, memory_json, sender_json}
 use Rattle.crash_json.specs.Crashpad.{crashpad_json, crashpad_module_json, dictionary_json, entry_json}
 use Rattle.crash_json.specs.Frames.{frame_json, frame_members, inline_json, name_members, register_members, registers_json}
 use Rattle.crash_json.specs.Minidump.{damage_json, damage_object, file_members, minidump_json, process_members, region_json, signature_members, stream_json}
 use Rattle.crash_json.specs.Modules.{module_json, module_members, modules_json, unloaded_json, unreadable_json}
 use Rattle.crash_json.specs.Point.{point_json, register_json, word_json}
-use Rattle.crash_json.specs.Records.{assertion_json, boot_args_json, handle_json, handles_json, kind_json, mac_crash_json, mac_record_json, soft_depth, soft_json}
+use Rattle.crash_json.specs.Records.{assertion_json, boot_args_json, handle_json, kind_json, mac_crash_json, mac_record_json, soft_depth, soft_json}
 use Rattle.crash_json.specs.ReportValue.{ReportValue}
-use Rattle.crash_json.specs.Report.{crash_members, error_json, json_of, pid_members, record_members, stream_members, system_members}
+use Rattle.crash_json.specs.Report.{error_json, json_of, line_json, path_members, pid_members, stream_members, system_members}
 use Rattle.crash_json.specs.System.{environment_json, limit_json, limits_json, release_json, system_json, variable_json}
 use Rattle.crash_json.specs.Threads.{crashing_json, index_members, range_json, short_json, thread_json, thread_members, threads_json}
 
@@ -107,7 +107,7 @@ environment_depth false text = omega arith
 -- ---- what the schema has no member for
 
 exception_depth : (e : Result ExceptionValue Error) → depth (exception_json e) ≤ 2
-unfolding read_json unread_json sender_json
+unfolding exception_json sender_json
 exception_depth (Ok e) =
     omega (arith, flat, array_within hex_string 0 (λ n. omega arith), or_null_within sender_json 1 (λ s. omega (arith, flat)))
 exception_depth (Err e) = omega arith
@@ -119,16 +119,7 @@ address_members_depth a = omega (arith, flat, or_null_within memory_json 1 (λ m
 damage_depth : (d : Damage) → depth (damage_json d) ≤ 1
 unfolding damage_object
 damage_depth (Stream number error) = omega arith
-damage_depth (Entries n) = omega arith
-damage_depth (Regions n) = omega arith
-damage_depth (Modules n) = omega arith
-damage_depth (Texts number n) = omega arith
-damage_depth (Records number n) = omega arith
-damage_depth (Exception error) = omega arith
-damage_depth (Parameters id n) = omega arith
-damage_depth (ExceptionContext id) = omega arith
-damage_depth (ThreadContext id) = omega arith
-damage_depth (Stack id) = omega arith
+damage_depth d = omega arith
 
 point_depth : (p : PointValue) → depth (point_json p) ≤ 4
 unfolding point_json word_json
@@ -173,7 +164,9 @@ signature_depth r =
     )
 
 minidump_depth : (r : ReportValue) → depth (minidump_json r) ≤ 6
-minidump_depth r = omega (arith, all_within, process_depth, file_depth, signature_depth)
+minidump_depth r =
+    let last = both_within (file_members r.crash) (signature_members r) in
+    omega (arith, both_within (process_members r.limits.environment r.crash), last, process_depth, file_depth, signature_depth)
 
 -- ---- the soft errors
 
@@ -189,51 +182,55 @@ soft_within text = read_within text (value soft_depth (tokens text)) refl
 
 -- ---- all of it
 
-crash_within : (r : ReportValue) → members_depth (members_of (crash_members r)) ≤ soft_depth
-unfolding system_members pid_members modules_json system_json crash_info_json unloaded_json
-crash_within r =
-    omega (
-      arith,
-      flat,
-      or_null_within system_json 1 (λ s. omega (arith, flat)),
-      numbered_array_within (module_json r.symbols) 1 (module_depth r.symbols),
-      array_within unloaded_json 1 (λ m. omega (arith, flat)),
-    )
+path_depth : (path : Option (List ℕ)) → members_depth (members_of (path_members path)) ≤ 0
+path_depth None = omega arith
+path_depth (Some path) = omega arith
 
-record_within : (r : ReportValue) → members_depth (members_of (record_members r)) ≤ soft_depth
-unfolding stream_members release_json mac_crash_json mac_record_json boot_args_json handles_json handle_json limits_json limit_json
-record_within r =
+records_within : (r : ReportValue) → members_depth (members_of (stream_members r.crash ++ ((codes "minidump", minidump_json r) ∷ []))) ≤ soft_depth
+unfolding stream_members release_json mac_crash_json mac_record_json boot_args_json handle_json limits_json limit_json
+records_within r =
     omega (
       arith,
       flat,
-      crashing_depth,
       or_null_within release_json 1 (λ r. omega (arith, flat)),
       or_null_within mac_crash_json 3 (λ all. omega (arith, array_within mac_record_json 1 (λ r. omega (arith, flat)))),
       or_null_within boot_args_json 0 (λ b. omega (arith, flat)),
-      or_null_within handles_json 2 (array_within handle_json 1 (λ h. omega (arith, flat))),
+      or_null_within (array_of handle_json) 2 (array_within handle_json 1 (λ h. omega (arith, flat))),
       or_null_within soft_json soft_depth soft_within,
       or_null_within limits_json 3 (λ text. omega (arith, array_within limit_json 1 (λ l. omega (arith, flat)))),
       minidump_depth,
     )
 
-threads_within : (r : ReportValue) → depth (threads_json r) ≤ 6
-unfolding threads_json
-threads_within r = numbered_array_within (thread_json r false) 5 (thread_depth r false) r.crash.threads.threads
-
-rest_within : (r : ReportValue) → members_depth (members_of (crash_members r ++ ((codes "threads", threads_json r) ∷ record_members r))) ≤ soft_depth
+rest_within : (r : ReportValue) → members_depth (members_of (pid_members r.crash
+    ++ ((codes "threads", threads_json r) ∷ (codes "crashing_thread", crashing_json r)
+    ∷ (stream_members r.crash ++ ((codes "minidump", minidump_json r) ∷ []))))) ≤ soft_depth
+unfolding pid_members threads_json unloaded_json
 rest_within r =
     omega (
       arith,
-      both_within (crash_members r) ((codes "threads", threads_json r) ∷ record_members r),
-      crash_within r,
-      record_within r,
-      threads_within r,
+      flat,
+      array_within unloaded_json 1 (λ m. omega (arith, flat)),
+      numbered_array_within (thread_json r false) 5 (thread_depth r false),
+      crashing_depth r,
+      records_within r,
+    )
+
+line_within : (r : ReportValue) → depth (line_json r) ≤ max_depth
+unfolding system_members modules_json system_json crash_info_json
+line_within r =
+    omega (
+      arith,
+      flat,
+      both_within,
+      path_depth,
+      or_null_within system_json 1 (λ s. omega (arith, flat)),
+      numbered_array_within (module_json r.symbols) 1 (module_depth r.symbols),
+      rest_within r,
     )
 
 pub line_depth : (limits : JsonLimits) (path : Option (List ℕ)) (symbols : Option SymbolizedValue) (c : CrashValue)
     → depth (json_of limits path symbols c) ≤ max_depth
-line_depth limits None symbols c = omega (arith, rest_within (record { limits = limits; path = None; symbols = symbols; crash = c }))
-line_depth limits (Some path) symbols c = omega (arith, rest_within (record { limits = limits; path = Some path; symbols = symbols; crash = c }))
+line_depth limits path symbols c = line_within (record { limits = limits; path = path; symbols = symbols; crash = c })
 
 pub error_depth : (path status : List ℕ) → depth (error_json path status) ≤ max_depth
 unfolding error_json

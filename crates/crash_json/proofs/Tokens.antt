@@ -19,18 +19,12 @@ use Rattle.crash_json.specs.Tree.{array_of, items_of, member_list_tokens, member
 members_of_list : (ms : List (List ℕ × Json)) → members_tokens (members_of ms) ≡ member_list_tokens ms ++ (end_object ∷ [])
 unfolding member_list_tokens
 members_of_list [] = refl
-members_of_list (m ∷ ms) =
-    let mine = json_tokens m.1 in
-    ap (λ ts. Token.key m.0 ∷ (mine ++ ts)) (members_of_list ms)
-    ∙ ap (λ ts. Token.key m.0 ∷ ts) (sym (append_assoc mine (member_list_tokens ms) (end_object ∷ [])))
+members_of_list (m ∷ ms) = simp (members_of_list ms, append_assoc)
 
 -- brackets round the tokens of members are an object
 pub object_of_members : (old : List Token) (ms : List (List ℕ × Json))
     → ((old ++ (begin_object ∷ [])) ++ member_list_tokens ms) ++ (end_object ∷ []) ≡ old ++ json_tokens (object_of ms)
-object_of_members old ms =
-    append_assoc (old ++ (begin_object ∷ [])) (member_list_tokens ms) (end_object ∷ [])
-    ∙ append_assoc old (begin_object ∷ []) (member_list_tokens ms ++ (end_object ∷ []))
-    ∙ ap (λ ts. old ++ (begin_object ∷ ts)) (sym (members_of_list ms))
+object_of_members old ms = simp (members_of_list, append_assoc)
 
 -- members in brackets are an object
 pub in_object : (t u v : List Token) (ms : List (List ℕ × Json))
@@ -58,16 +52,11 @@ item_tokens json xs = flat_map (λ x. json_tokens (json x)) xs
 
 items_of_list : {X : Type 0} (f : X → Json) (xs : List X) → items_tokens (items_of (map f xs)) ≡ item_tokens f xs ++ (end_array ∷ [])
 items_of_list f [] = refl
-items_of_list f (x ∷ xs) =
-    let mine = json_tokens (f x) in
-    ap (λ ts. mine ++ ts) (items_of_list f xs) ∙ sym (append_assoc mine (item_tokens f xs) (end_array ∷ []))
+items_of_list f (x ∷ xs) = simp (items_of_list f xs, append_assoc)
 
 array_of_items : {X : Type 0} (f : X → Json) (xs : List X) (t : List Token)
     → ((t ++ (begin_array ∷ [])) ++ item_tokens f xs) ++ (end_array ∷ []) ≡ t ++ json_tokens (array_of f xs)
-array_of_items f xs t =
-    append_assoc (t ++ (begin_array ∷ [])) (item_tokens f xs) (end_array ∷ [])
-    ∙ append_assoc t (begin_array ∷ []) (item_tokens f xs ++ (end_array ∷ []))
-    ∙ ap (λ ts. t ++ (begin_array ∷ ts)) (sym (items_of_list f xs))
+array_of_items f xs t = simp (items_of_list, append_assoc)
 
 -- items in brackets are an array
 pub in_array : {X : Type 0} (f : X → Json) (xs : List X) (t u v : List Token)
@@ -93,17 +82,13 @@ pub last_numbered : {X : Type 0} (f : ℕ → X → Json) (xs : List X) (i : ℕ
 last_numbered f xs i now past whole =
     sym (append-nil now) ∙ ap (λ ys. now ++ item_tokens (λ p. f p.0 p.1) (enumerate_from i ys)) (sym (drop_all i xs past)) ∙ whole
 
--- a text whose tokens are those of a value is that value
-document_of_tokens : (text : List ℕ) (j : Json) → tokens text ≡ json_tokens j → depth j ≤ max_depth → document text ≡ Some j
-document_of_tokens text j is shallow =
-    ap (option_and_then (λ p. if_last p.0 p.1))
-    (ap (value max_depth) (is ∙ sym (append-nil (json_tokens j))) ∙ value-json_tokens j max_depth [] shallow)
-
 -- a text that was printed from the tokens of a value, put after none, is that value
 pub document_of_put : (text printed : List ℕ) (before after : List Token) (j : Json) → text ≡ printed → tokens printed ≡ after
     → after ≡ before ++ json_tokens j → before ≡ [] → depth j ≤ max_depth → document text ≡ Some j
 document_of_put text printed before after j is read put begin shallow =
-    document_of_tokens text j (ap tokens is ∙ read ∙ put ∙ ap (λ ts. ts ++ json_tokens j) begin) shallow
+    let same : tokens text ≡ json_tokens j = ap tokens is ∙ read ∙ put ∙ ap (λ ts. ts ++ json_tokens j) begin in
+    ap (option_and_then (λ p. if_last p.0 p.1))
+    (ap (value max_depth) (same ∙ sym (append-nil (json_tokens j))) ∙ value-json_tokens j max_depth [] shallow)
 
 -- ---- the values that items stand for
 

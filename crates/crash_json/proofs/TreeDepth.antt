@@ -39,8 +39,3 @@ numbered_array_within json bound each xs = array_within (λ p. json p.0 p.1) bou
 pub both_within : (a b : List (List ℕ × Json)) → members_depth (members_of (a ++ b)) ≤ max (members_depth (members_of a)) (members_depth (members_of b))
 both_within [] b = omega arith
 both_within (m ∷ a) b = omega (arith, both_within a b)
-
--- members after others, and others after these
-pub all_within : (a b c : List (List ℕ × Json))
-    → members_depth (members_of (a ++ (b ++ c))) ≤ max (members_depth (members_of a)) (max (members_depth (members_of b)) (members_depth (members_of c)))
-all_within a b c = omega (arith, both_within a (b ++ c), both_within b c)

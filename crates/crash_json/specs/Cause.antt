@@ -1,22 +1,22 @@
 -- Where and why a process crashed, as JSON.
-use Rattle.std.specs.Prelude.{ℕ, List, [], ◌∷◌, ◌++◌, codes, Option, Result, Ok, Err}
+use Rattle.std.specs.Prelude.{ℕ, List, [], ◌∷◌, ◌++◌, codes, Option, Result}
 use Rattle.std.specs.Option.{option_and_then, option_map}
-use Rattle.std.specs.Result.{result_ok}
-use Rattle.json.specs.Json.{Json, boolean, null, string}
+use Rattle.std.specs.Result.{result_err, result_ok}
+use Rattle.json.specs.Json.{Json, boolean, string}
 use Rattle.minidump.specs.declared.Error.{Error}
 use Rattle.minidump.specs.declared.format.MINIDUMP_ASSERTION_INFO.{MINIDUMP_ASSERTION_INFO}
 use Rattle.minidump.specs.Below.Bytes.Text16.{text_before_nul}
 use Rattle.minidump.specs.Below.Format.Error.{name_of_error}
-use Rattle.crash.specs.declared.addresses.AddressFacts.{AddressFacts}
-use Rattle.crash.specs.declared.addresses.AddressMemory.{AddressMemory}
-use Rattle.crash.specs.declared.addresses.RegionState.{RegionState}
-use Rattle.crash.specs.declared.addresses.RegionState.TheVariants.{Committed, Free, Reserved}
-use Rattle.crash.specs.declared.contexts.ContextProblem.{ContextProblem}
-use Rattle.crash.specs.declared.contexts.ContextProblem.TheVariants.{NoSystem, NotAccepted, Outside}
+use Rattle.crash_threads.specs.declared.addresses.AddressFacts.{AddressFacts}
+use Rattle.crash_threads.specs.declared.addresses.AddressMemory.{AddressMemory}
+use Rattle.crash_threads.specs.declared.addresses.RegionState.{RegionState}
+use Rattle.crash_threads.specs.declared.addresses.RegionState.TheVariants.{Committed, Free, Reserved}
+use Rattle.crash_threads.specs.declared.contexts.ContextProblem.{ContextProblem}
+use Rattle.crash_threads.specs.declared.contexts.ContextProblem.TheVariants.{NoSystem, NotAccepted, Outside}
 use Rattle.crash_streams.specs.declared.records.Access.{Access}
 use Rattle.crash_streams.specs.declared.records.Access.TheVariants.{Execute, Read, Write}
 use Rattle.crash_streams.specs.declared.records.Sender.{Sender}
-use Rattle.crash.specs.Cause.{ExceptionValue, counted_exception}
+use Rattle.crash_threads.specs.Cause.{ExceptionValue, counted_exception}
 use Rattle.crash.specs.Crash.{CrashValue}
 use Rattle.crash_streams.specs.Records.{signal_code_name}
 use Rattle.crash_json.specs.Tree.{array_of, count, hex_string, object_of, or_null}
@@ -63,46 +63,23 @@ sender_json s = object_of (
     ∷ (codes "code", string (signal_code_name s.code))
     ∷ [])
 
--- an exception that can be read
-unfoldable pub read_json : ExceptionValue → Json
-read_json e = object_of (
-    (codes "thread_id", count e.thread)
-    ∷ (codes "code", hex_string e.code)
-    ∷ (codes "flags", hex_string e.flags)
-    ∷ (codes "exception_address", hex_string e.at)
-    ∷ (codes "nested", hex_string e.nested)
-    ∷ (codes "parameters", array_of hex_string e.parameters)
-    ∷ (codes "access", or_null string (option_map access_name e.access))
-    ∷ (codes "sender", or_null sender_json e.sender)
-    ∷ (codes "address", or_null hex_string e.address)
-    ∷ (codes "type", or_null string e.reason)
-    ∷ (codes "description", or_null string e.description)
-    ∷ (codes "context_problem", or_null string (option_map problem_name e.context_problem))
-    ∷ (codes "error", null)
+-- an exception: what is said of it, with nothing of what can't be read, and then the name of the error
+unfoldable pub exception_json : Result ExceptionValue Error → Json
+exception_json read = let e = result_ok read in object_of (
+    (codes "thread_id", or_null (λ e. count e.thread) e)
+    ∷ (codes "code", or_null (λ e. hex_string e.code) e)
+    ∷ (codes "flags", or_null (λ e. hex_string e.flags) e)
+    ∷ (codes "exception_address", or_null (λ e. hex_string e.at) e)
+    ∷ (codes "nested", or_null (λ e. hex_string e.nested) e)
+    ∷ (codes "parameters", or_null (λ e. array_of hex_string e.parameters) e)
+    ∷ (codes "access", or_null (λ e. or_null string (option_map access_name e.access)) e)
+    ∷ (codes "sender", or_null (λ e. or_null sender_json e.sender) e)
+    ∷ (codes "address", or_null (λ e. or_null hex_string e.address) e)
+    ∷ (codes "type", or_null (λ e. or_null string e.reason) e)
+    ∷ (codes "description", or_null (λ e. or_null string e.description) e)
+    ∷ (codes "context_problem", or_null (λ e. or_null string (option_map problem_name e.context_problem)) e)
+    ∷ (codes "error", or_null string (option_map name_of_error (result_err read)))
     ∷ [])
-
--- one that can't be read, by the name of the error
-unfoldable pub unread_json : List ℕ → Json
-unread_json error = object_of (
-    (codes "thread_id", null)
-    ∷ (codes "code", null)
-    ∷ (codes "flags", null)
-    ∷ (codes "exception_address", null)
-    ∷ (codes "nested", null)
-    ∷ (codes "parameters", null)
-    ∷ (codes "access", null)
-    ∷ (codes "sender", null)
-    ∷ (codes "address", null)
-    ∷ (codes "type", null)
-    ∷ (codes "description", null)
-    ∷ (codes "context_problem", null)
-    ∷ (codes "error", string error)
-    ∷ [])
-
--- an exception, or why it can't be read
-abbrev pub exception_json : Result ExceptionValue Error → Json
-exception_json (Ok e) = read_json e
-exception_json (Err error) = unread_json (name_of_error error)
 
 -- ---- the address
 

@@ -7,10 +7,10 @@ use Rattle.json.specs.Json.{Json, boolean, string}
 use Rattle.stack_walk.specs.declared.frame.FrameTrust.{FrameTrust}
 use Rattle.stack_walk.specs.declared.frame.FrameTrust.TheVariants.{Context, Cfi, FramePointer, Scan}
 use Rattle.stack_walk.specs.declared.frame.FrameTrust.TheVariants.{Link}
-use Rattle.crash.specs.declared.frames.CrashFrame.{CrashFrame}
-use Rattle.crash.specs.Contexts.{ContextValue}
-use Rattle.crash_streams.specs.Modules.{LoadedValue}
-use Rattle.crash.specs.Threads.{ThreadValue}
+use Rattle.crash_threads.specs.declared.frames.CrashFrame.{CrashFrame}
+use Rattle.crash_threads.specs.Contexts.{ContextValue}
+use Rattle.crash_process.specs.Modules.{LoadedValue}
+use Rattle.crash_threads.specs.Threads.{ThreadValue}
 use Rattle.crash_symbols.specs.Names.{CallValue, FunctionName, NamedFrameValue, SourceValue}
 use Rattle.crash_symbols.specs.Shown.{SymbolizedValue}
 use Rattle.crash_json.specs.ReportValue.{ReportValue}

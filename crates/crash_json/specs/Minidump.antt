@@ -13,7 +13,7 @@ use Rattle.crash.specs.declared.damage.Damage.{Damage}
 use Rattle.crash.specs.declared.damage.Damage.TheVariants.{Entries, Exception, ExceptionContext, Modules}
 use Rattle.crash.specs.declared.damage.Damage.TheVariants.{Parameters, Records, Regions, Stack, Stream}
 use Rattle.crash.specs.declared.damage.Damage.TheVariants.{Texts, ThreadContext}
-use Rattle.crash_streams.specs.declared.directory.StreamEntry.{StreamEntry}
+use Rattle.crash_process.specs.declared.directory.StreamEntry.{StreamEntry}
 use Rattle.crash.specs.Crash.{CrashValue, status_of}
 use Rattle.crash_json.specs.Tree.{array_of, count, hex_string, object_of, or_null}
 use Rattle.crash_json.specs.Cause.{address_json, exception_json}

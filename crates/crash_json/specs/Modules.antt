@@ -1,13 +1,12 @@
 -- Modules as JSON, loaded and unloaded.
 use Rattle.std.specs.Prelude.{ℕ, ◌++◌, Bool, false, true, List, [], ◌∷◌, codes, Option, Some, None}
 use Rattle.json.specs.Json.{Json, boolean, string}
-use Rattle.crash_streams.specs.declared.unreadable_modules.ModulePart.{ModulePart}
-use Rattle.crash_streams.specs.declared.unreadable_modules.ModulePart.TheVariants.{CodeView, Name}
-use Rattle.crash_streams.specs.declared.unreadable_modules.UnreadableModule.{UnreadableModule}
-use Rattle.crash_streams.specs.Modules.{LoadedValue, UnloadedModuleValue}
+use Rattle.crash_process.specs.declared.unreadable_modules.ModulePart.{ModulePart}
+use Rattle.crash_process.specs.declared.unreadable_modules.ModulePart.TheVariants.{CodeView, Name}
+use Rattle.crash_process.specs.declared.unreadable_modules.UnreadableModule.{UnreadableModule}
+use Rattle.crash_process.specs.Modules.{LoadedValue, UnloadedModuleValue}
 use Rattle.crash_symbols.specs.declared.symbols.SymbolState.{SymbolState}
-use Rattle.crash_symbols.specs.declared.symbols.SymbolState.TheVariants.{Corrupt, Loaded, Missing}
-use Rattle.crash_symbols.specs.declared.symbols.SymbolState.TheVariants.{OutOfMemory, Unwanted}
+use Rattle.crash_symbols.specs.declared.symbols.SymbolState.TheVariants.{Corrupt, Missing, OutOfMemory}
 use Rattle.crash_symbols.specs.Shown.{SymbolizedValue}
 use Rattle.crash_symbols.specs.Symbols.{are_loaded, state_at}
 use Rattle.crash_json.specs.Tree.{count, hex_string, numbered_array_of, object_of, or_null}
@@ -29,32 +28,24 @@ module_members m =
 
 -- symbols were looked for and are missing, or memory ran out for them
 abbrev pub are_missing : SymbolState → Bool
-are_missing Unwanted = false
 are_missing Missing = true
-are_missing Loaded = false
-are_missing Corrupt = false
 are_missing OutOfMemory = true
+are_missing state = false
 
 -- symbols can't be read, or are those of another module
 abbrev pub are_corrupt : SymbolState → Bool
-are_corrupt Unwanted = false
-are_corrupt Missing = false
-are_corrupt Loaded = false
 are_corrupt Corrupt = true
-are_corrupt OutOfMemory = false
+are_corrupt state = false
 
 -- whether symbols are missing, whether they are there, and whether they can't be used
 abbrev pub flag_members : Bool → Bool → Bool → List (List ℕ × Json)
 flag_members missing loaded corrupt = (codes "missing_symbols", boolean missing)
     ∷ (codes "loaded_symbols", boolean loaded) ∷ (codes "corrupt_symbols", boolean corrupt) ∷ []
 
--- what is known of a module's symbols
-abbrev pub state_members : SymbolState → List (List ℕ × Json)
-state_members state = flag_members (are_missing state) (are_loaded state) (are_corrupt state)
-
--- the same by the index of the module, where symbols are known
+-- what is known of the symbols of the module of an index, where symbols are known
 abbrev pub symbol_members : Option SymbolizedValue → ℕ → List (List ℕ × Json)
-symbol_members (Some s) index = state_members (state_at s.states index)
+symbol_members (Some s) index = let state = state_at s.states index in
+    flag_members (are_missing state) (are_loaded state) (are_corrupt state)
 symbol_members None index = []
 
 -- ---- all of it

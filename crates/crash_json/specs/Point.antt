@@ -1,10 +1,10 @@
 -- Where the thread that crashed stands, as JSON.
 use Rattle.std.specs.Prelude.{ℕ, List, [], ◌∷◌, codes, filter}
 use Rattle.json.specs.Json.{Json, string}
-use Rattle.crash.specs.declared.addresses.AddressFacts.{AddressFacts}
-use Rattle.crash.specs.declared.point.StackWord.{StackWord}
-use Rattle.crash.specs.Addresses.{is_placed}
-use Rattle.crash.specs.Point.{PointValue}
+use Rattle.crash_threads.specs.declared.addresses.AddressFacts.{AddressFacts}
+use Rattle.crash_threads.specs.declared.point.StackWord.{StackWord}
+use Rattle.crash_threads.specs.Addresses.{is_placed}
+use Rattle.crash_threads.specs.Point.{PointValue}
 use Rattle.crash_json.specs.Tree.{array_of, count, hex_string, object_of}
 use Rattle.crash_json.specs.Cause.{address_json, address_members, place_members}
 use Rattle.crash_json.specs.Frames.{named_json}

@@ -13,7 +13,7 @@ use Rattle.minidump.specs.Below.Records.Handles.{Handle}
 use Rattle.minidump.specs.Below.Records.MacCrashInfo.{MacRecords}
 use Rattle.minidump.specs.Below.Records.Record as mac
 use Rattle.minidump.specs.Below.Records.Record.{MacRecord, text_of}
-use Rattle.crash_streams.specs.HandleKinds.{KindValue}
+use Rattle.crash_process.specs.HandleKinds.{KindValue}
 use Rattle.crash_json.specs.Tree.{array_of, count, hex_string, object_of, or_null}
 
 -- ---- handles
@@ -25,10 +25,6 @@ handle_json h = object_of (
     ∷ (codes "type_name", or_null string h.type_name)
     ∷ (codes "object_name", or_null string h.object_name)
     ∷ [])
-
--- the handles
-unfoldable pub handles_json : List Handle → Json
-handles_json handles = array_of handle_json handles
 
 -- a kind of handles: the name of their type, and how many there are
 unfoldable pub kind_json : KindValue → Json

@@ -12,7 +12,7 @@ use Rattle.crash_json.specs.Cause.{crash_info_json}
 use Rattle.crash_json.specs.ReportValue.{ReportValue}
 use Rattle.crash_json.specs.Minidump.{minidump_json}
 use Rattle.crash_json.specs.Modules.{main_module, modules_json, unloaded_json}
-use Rattle.crash_json.specs.Records.{boot_args_json, handles_json, mac_crash_json, soft_json}
+use Rattle.crash_json.specs.Records.{boot_args_json, handle_json, mac_crash_json, soft_json}
 use Rattle.crash_json.specs.System.{limits_json, release_json, system_json}
 use Rattle.crash_json.specs.Threads.{crashing_json, threads_json}
 
@@ -38,32 +38,27 @@ pid_members c =
     ∷ (codes "thread_count", count (length c.threads.threads))
     ∷ []
 
--- these, with the modules between them
-abbrev pub crash_members : ReportValue → List (List ℕ × Json)
-crash_members r = system_members r.crash
-    ++ ((codes "modules", modules_json r.symbols r.crash.modules.loaded) ∷ pid_members r.crash)
-
 -- what single streams hold
 unfoldable pub stream_members : CrashValue → List (List ℕ × Json)
 stream_members c = let messages = c.contents.messages in
     (codes "lsb_release", or_null release_json c.process.release)
     ∷ (codes "mac_crash_info", or_null mac_crash_json (result_ok messages.mac_crash_info))
     ∷ (codes "mac_boot_args", or_null boot_args_json (result_ok messages.mac_boot_args))
-    ∷ (codes "handles", or_null handles_json (result_ok c.contents.process.handles))
+    ∷ (codes "handles", or_null (array_of handle_json) (result_ok c.contents.process.handles))
     ∷ (codes "soft_errors", or_null soft_json (result_ok messages.soft_errors))
     ∷ (codes "linux_memory_map_count", or_null count c.contents.space.map_count)
     ∷ (codes "proc_limits", or_null limits_json (result_ok c.contents.process.limits))
     ∷ []
 
--- the thread that crashed, what single streams hold, and what the schema has no member for
-abbrev pub record_members : ReportValue → List (List ℕ × Json)
-record_members r = (codes "crashing_thread", crashing_json r)
-    ∷ (stream_members r.crash ++ ((codes "minidump", minidump_json r) ∷ []))
-
 -- the line by what it is made of
 abbrev pub line_json : ReportValue → Json
 line_json r = object_of (path_members r.path
-    ++ (crash_members r ++ ((codes "threads", threads_json r) ∷ record_members r)))
+    ++ (system_members r.crash
+    ++ ((codes "modules", modules_json r.symbols r.crash.modules.loaded)
+    ∷ (pid_members r.crash
+    ++ ((codes "threads", threads_json r)
+    ∷ (codes "crashing_thread", crashing_json r)
+    ∷ (stream_members r.crash ++ ((codes "minidump", minidump_json r) ∷ [])))))))
 
 -- a crash, with the path of its file, where it has one, and with symbols, where they are known
 abbrev pub json_of : JsonLimits → Option (List ℕ) → Option SymbolizedValue → CrashValue → Json

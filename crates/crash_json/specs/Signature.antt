@@ -5,9 +5,9 @@ use Rattle.std.specs.List.{concat}
 use Rattle.std.specs.Option.{option_and_then, option_map, option_map_or}
 use Rattle.std.specs.Str.Lossy.{utf8_lossy}
 use Rattle.minidump.specs.Below.Bytes.Piece.{hex}
-use Rattle.crash.specs.Cause.{counted_exception}
-use Rattle.crash_streams.specs.Modules.{LoadedValue}
-use Rattle.crash.specs.Threads.{crashed_thread}
+use Rattle.crash_threads.specs.Cause.{counted_exception}
+use Rattle.crash_process.specs.Modules.{LoadedValue}
+use Rattle.crash_threads.specs.Threads.{crashed_thread}
 use Rattle.crash_symbols.specs.Names.{FunctionName, NamedFrameValue}
 use Rattle.crash_symbols.specs.Shown.{shown_in}
 use Rattle.crash_json.specs.ReportValue.{ReportValue}

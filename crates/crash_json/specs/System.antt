@@ -7,9 +7,9 @@ use Rattle.minidump.specs.declared.Error.{Error}
 use Rattle.minidump.specs.Below.Records.Pairs.{pairs_of}
 use Rattle.minidump.specs.Below.System.Cpu.{cpu_name}
 use Rattle.minidump.specs.Below.System.Os.{os_long_name}
-use Rattle.crash_streams.specs.Linux.{LimitValue, limits_in}
-use Rattle.crash_streams.specs.Process.{SystemValue}
-use Rattle.crash_streams.specs.Release.{ReleaseValue}
+use Rattle.crash_process.specs.Linux.{LimitValue, limits_in}
+use Rattle.crash_process.specs.Process.{SystemValue}
+use Rattle.crash_process.specs.Release.{ReleaseValue}
 use Rattle.crash_json.specs.Tree.{array_of, count, object_of, or_null}
 use Rattle.crash_json.specs.Crashpad.{entry_json}
 
@@ -59,12 +59,8 @@ limits_json text = object_of ((codes "limits", array_of limit_json (limits_in te
 abbrev pub variable_json : List ℕ × List ℕ → Json
 variable_json p = entry_json (utf8_lossy p.0) (string (utf8_lossy p.1))
 
--- the variables
-abbrev pub variables_json : List (List ℕ × List ℕ) → Json
-variables_json variables = array_of variable_json variables
-
 -- the environment, where it is asked for and its stream can be read
 abbrev pub environment_json : Bool → Result (List ℕ) Error → Json
-environment_json true (Ok text) = variables_json (pairs_of 0x3d text)
+environment_json true (Ok text) = array_of variable_json (pairs_of 0x3d text)
 environment_json true (Err _) = null
 environment_json false text = null

@@ -7,11 +7,11 @@ use Rattle.stack_walk.specs.declared.end.WalkEnd.TheVariants as ending
 use Rattle.symbol_walk.specs.declared.walk.SymbolWalkEnd.{SymbolWalkEnd}
 use Rattle.symbol_walk.specs.declared.walk.SymbolWalkEnd.TheVariants.{NoReturnRule, Walk}
 use Rattle.symbol_walk.specs.declared.walk.SymbolWalkEnd.TheVariants.{ZeroReturnAddress}
-use Rattle.crash.specs.declared.contexts.ContextOrigin.{ContextOrigin}
-use Rattle.crash.specs.declared.contexts.ContextOrigin.TheVariants.{OfException, OfThread}
-use Rattle.crash.specs.declared.contexts.ShortContext.{ShortContext}
-use Rattle.crash.specs.declared.stacks.StackRange.{StackRange}
-use Rattle.crash.specs.Threads.{ThreadValue, ThreadsValue, crashed_thread, short_context}
+use Rattle.crash_threads.specs.declared.contexts.ContextOrigin.{ContextOrigin}
+use Rattle.crash_threads.specs.declared.contexts.ContextOrigin.TheVariants.{OfException, OfThread}
+use Rattle.crash_threads.specs.declared.contexts.ShortContext.{ShortContext}
+use Rattle.crash_threads.specs.declared.stacks.StackRange.{StackRange}
+use Rattle.crash_threads.specs.Threads.{ThreadValue, ThreadsValue, crashed_thread, short_context}
 use Rattle.crash_symbols.specs.Backtraces.{BacktraceValue}
 use Rattle.crash_symbols.specs.Names.{NamedFrameValue}
 use Rattle.crash_symbols.specs.Shown.{all_frames, shown_in}

@@ -5,14 +5,14 @@ ghost use Rattle.minidump.specs.Below.Contexts.Context.{map_ok};
 ghost use Rattle.minidump.specs.Below.Format.Error.{name_of_error};
 ghost use Rattle.minidump.specs.Promise.{assertion_stream};
 ghost use Rattle.json.specs.Json.{string};
-ghost use Rattle.crash.specs.Cause.{cause_of, counted_exception, exception_of};
+ghost use Rattle.crash_threads.specs.Cause.{cause_of, counted_exception, exception_of};
 ghost use Rattle.crash.specs.Crash.{crash_of};
 ghost use Rattle.crash_streams.specs.Records.{signal_code_name};
 ghost use Rattle.crash_json.specs.Cause.{access_name, address_json, address_members};
 ghost use Rattle.crash_json.specs.Cause.{crash_info_json, exception_json, expression_in, memory_json};
 ghost use Rattle.crash_json.specs.Cause.{place_members, problem_name, sender_json, state_name};
 
-use crate::tree::{Members, Optional, Put, Text, ToJson, members};
+use crate::tree::{Members, Put, ToJson, members};
 use crash::{
     Access, AddressFacts, AddressMemory, ContextProblem, Crash, CrashCause, CrashException,
     RegionState, Sender, SignalCode,
@@ -32,15 +32,14 @@ pub(crate) struct CrashInfo<'l, 'a>(pub(crate) &'l Crash<'a>);
 impl ToJson for CrashInfo<'_, '_> {
     ghost json = { λ c. crash_info_json (crash_of c.0.now) };
 
-    #[tactic(auto, unfolding(crate::specs::Cause::crash_info_json))]
     fn put(&self, out: &mut Writer, alloc: Global) -> Put {
         let crash = self.0;
         let assertion = expression_of(alloc, &crash.contents.messages.assertion)?;
         members! {
-            "type": Text(reason_of(&crash.cause)),
+            "type": reason_of(&crash.cause),
             "address": address_of(&crash.cause),
             "crashing_thread": crash.threads.crashing,
-            "assertion": Optional(&assertion),
+            "assertion": &assertion,
         }
         .put_object(out, alloc)
     }
@@ -81,7 +80,6 @@ fn expression_of(
 impl ToJson for Result<CrashException, Error> {
     ghost json = { λ e. exception_json (map_ok exception_of e) };
 
-    #[tactic(auto, unfolding(crate::specs::Cause::read_json, crate::specs::Cause::unread_json))]
     fn put(&self, out: &mut Writer, alloc: Global) -> Put {
         match self {
             Ok(exception) => members! {
@@ -94,8 +92,8 @@ impl ToJson for Result<CrashException, Error> {
                 "access": exception.access,
                 "sender": exception.sender,
                 "address": exception.address,
-                "type": Optional(&exception.reason),
-                "description": Optional(&exception.description),
+                "type": &exception.reason,
+                "description": &exception.description,
                 "context_problem": exception.context_problem,
                 "error": (),
             }
@@ -194,7 +192,7 @@ impl Members for AddressFacts {
             "address": self.address,
             "null_offset": self.null_offset,
             "is_canonical": self.is_canonical,
-            ..Place(self.module),
+            ..self.module,
             "unloaded_module": self.unloaded,
             "stack_of": self.stack_of,
             "below_stack": self.below_stack,
@@ -204,15 +202,12 @@ impl Members for AddressFacts {
     }
 }
 
-/// The index of a module and the offset in it, or none.
-#[derive(Clone, Copy)]
-pub(crate) struct Place(pub(crate) Option<(usize, u64)>);
-
-impl Members for Place {
-    ghost members = { λ place. place_members place.0 };
+// The index of a module and the offset in it, or none.
+impl Members for Option<(usize, u64)> {
+    ghost members = { place_members };
 
     fn add(&self, out: &mut Writer, alloc: Global) -> Put {
-        match self.0 {
+        match *self {
             Some((index, offset)) => {
                 members! { "module": index, "module_offset": offset, }.add(out, alloc)
             }

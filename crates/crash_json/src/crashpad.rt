@@ -1,5 +1,5 @@
 //! Crashpad's information: its identifiers and its annotations.
-ghost use Rattle.std.specs.Prelude.{◌≡◌, IfOk, map, string_bytes};
+ghost use Rattle.std.specs.Prelude.{string_bytes};
 ghost use Rattle.json.specs.Json.{string};
 ghost use Rattle.minidump.specs.Below.Format.Guid.{guid_text};
 ghost use Rattle.minidump.specs.Below.Records.Annotations.{annotation_of};
@@ -14,13 +14,13 @@ use crash::annotation_text;
 use json::Writer;
 use minidump::format::GUID;
 use minidump::{MinidumpAnnotation, MinidumpCrashpadInfo, MinidumpModuleCrashpadInfo};
-use std::alloc::{AllocError, Global};
+use std::alloc::Global;
 use std::collections::BTreeMap;
 
 impl ToJson for MinidumpCrashpadInfo {
     ghost json = { λ c. crashpad_json (crashpad_info_stream.value c) };
 
-    #[tactic(auto, unfolding(crate::specs::Crashpad::crashpad_json))]
+    #[tactic(auto, unfolding(crate::specs::Crashpad::crashpad_json), using(crate::proofs::Tokens::views))]
     fn put(&self, out: &mut Writer, alloc: Global) -> Put {
         members! {
             "report_id": self.raw.report_id,
@@ -45,7 +45,6 @@ impl ToJson for GUID {
 impl ToJson for MinidumpModuleCrashpadInfo {
     ghost json = { λ m. crashpad_module_json (module_of m) };
 
-    #[tactic(auto, unfolding(crate::specs::Crashpad::crashpad_module_json))]
     fn put(&self, out: &mut Writer, alloc: Global) -> Put {
         members! {
             "module_index": self.module_index,
@@ -72,22 +71,10 @@ impl ToJson for MinidumpAnnotation {
 impl<V: ToJson> ToJson for BTreeMap<String, V> {
     ghost json = { λ d. array_of (λ e. entry_json (string_bytes e.0) (V.json e.1)) d.entries };
 
-    #[tactic(auto, using(crate::proofs::Tokens::views))]
     fn put(&self, out: &mut Writer, alloc: Global) -> Put {
-        let entries = entries_of(alloc, self)?;
+        let entries: Vec<(&String, &V)> = self.iter().collect(alloc)?;
         entries.put(out, alloc)
     }
-}
-
-// Returns the entries of a dictionary.
-fn entries_of<'l, V>(
-    alloc: Global,
-    dictionary: &'l BTreeMap<String, V>,
-) -> Result<Vec<(&'l String, &'l V)>, AllocError>
-    ensures { IfOk result
-        (λ entries. map (λ e. (e.0.now, e.1.now)) entries.items ≡ dictionary.now.entries) }
-{
-    dictionary.iter().collect(alloc)
 }
 
 impl<'l, V: ToJson> ToJson for (&'l String, &'l V) {

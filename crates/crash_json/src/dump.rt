@@ -1,15 +1,14 @@
 //! What a minidump says that the schema has no member for.
 ghost use Rattle.std.specs.Prelude.{◌≡◌, Ok};
-ghost use Rattle.std.specs.Option.{option_map};
 ghost use Rattle.std.specs.Result.{result_ok};
 ghost use Rattle.minidump.specs.Below.Contexts.Context.{map_ok};
 ghost use Rattle.json.specs.Json.{string};
-ghost use Rattle.minidump.specs.Below.Format.StreamType.{stream_type_of, type_name};
+ghost use Rattle.minidump.specs.Below.Format.StreamType.{type_name};
 ghost use Rattle.minidump.specs.Below.MemoryLists.Unified.{unified_list, unified_region};
 ghost use Rattle.minidump.specs.Below.MemoryLists.Unified.{unified_regions};
 ghost use Rattle.minidump.specs.Promise.{breakpad_info_stream};
 ghost use Rattle.crash.specs.Crash.{crash_of, status_of};
-ghost use Rattle.crash_json.specs.Tree.{array_of, or_null};
+ghost use Rattle.crash_json.specs.Tree.{Adds, Puts, array_of};
 ghost use Rattle.crash_json.specs.ReportValue.{report_of};
 ghost use Rattle.crash_json.specs.Minidump.{breakpad_members, damage_json, damage_object};
 ghost use Rattle.crash_json.specs.Minidump.{file_members, minidump_json, process_members, region_json};
@@ -19,57 +18,45 @@ use crate::report::Report;
 use crate::signature::signature_in;
 use crate::system::Environment;
 use crate::threads::registers_of;
-use crate::tree::{Decimal, Found, Members, Optional, Put, Text, ToJson, members};
+use crate::tree::{Decimal, Members, Put, ToJson, members};
 use crash::{Crash, Damage, StreamEntry, regions_of};
 use json::Writer;
 use minidump::format::MINIDUMP_STREAM_TYPE;
 use minidump::{Error, MinidumpBreakpadInfo, UnifiedMemory, UnifiedMemoryList};
 use std::alloc::Global;
 
-/// What a minidump says that the schema has no member for, with the environment if it is asked for.
-#[derive(Clone, Copy)]
-pub(crate) struct Minidump<'l, 'a, 's, 'n>(pub(crate) Report<'l, 'a, 's, 'n>);
-
-impl ToJson for Minidump<'_, '_, '_, '_> {
-    ghost json = { λ m. minidump_json (report_of m.0) };
-
-    fn put(&self, out: &mut Writer, alloc: Global) -> Put {
-        (
-            ProcessPart(self.0),
-            (FilePart(self.0.crash), SignaturePart(self.0)),
-        )
-            .put_object(out, alloc)
-    }
+/// Puts what a minidump says that the schema has no member for, with the environment if it is asked
+/// for.
+pub(crate) fn put_minidump(report: &Report<'_, '_, '_, '_>, out: &mut Writer, alloc: Global) -> Put
+    ensures { Puts result out.old out.new (minidump_json (report_of report.now)) }
+{
+    out.begin_object()?;
+    add_process(report.crash, report.limits.environment, out, alloc)?;
+    add_file(report.crash, out, alloc)?;
+    add_signature(report, out, alloc)?;
+    out.end_object()
 }
 
-// The process, with its environment if it is asked for, and who wrote the dump.
-#[derive(Clone, Copy)]
-struct ProcessPart<'l, 'a, 's, 'n>(Report<'l, 'a, 's, 'n>);
-
-impl Members for ProcessPart<'_, '_, '_, '_> {
-    ghost members = { λ part. process_members (report_of part.0).limits.environment
-        (report_of part.0).crash };
-
-    #[tactic(auto, unfolding(crate::specs::Minidump::process_members))]
-    fn add(&self, out: &mut Writer, alloc: Global) -> Put {
-        let crash = self.0.crash;
-        let environment = Environment {
-            is_asked: self.0.limits.environment,
-            found: &crash.contents.process.environ,
-        };
-        members! {
-            "written": unless_zero(crash.directory.written),
-            "uptime": Decimal(crash.process.uptime),
-            "parent_process_id": crash.process.parent,
-            "resident_size": Decimal(crash.process.resident),
-            ..Breakpad(&crash.contents.system.breakpad),
-            "command_line": Optional(&crash.process.command_line),
-            "environment": environment,
-            "comment": Optional(&crash.process.comments.narrow),
-            "wide_comment": Optional(&crash.process.comments.wide),
-        }
-        .add(out, alloc)
+// Adds the process, with its environment if it is asked for, and who wrote the dump.
+fn add_process(crash: &Crash<'_>, is_asked: bool, out: &mut Writer, alloc: Global) -> Put
+    ensures { Adds result out.old out.new (process_members is_asked (crash_of crash.now)) }
+{
+    let environment = Environment {
+        is_asked,
+        found: &crash.contents.process.environ,
+    };
+    members! {
+        "written": unless_zero(crash.directory.written),
+        "uptime": Decimal(crash.process.uptime),
+        "parent_process_id": crash.process.parent,
+        "resident_size": Decimal(crash.process.resident),
+        ..&crash.contents.system.breakpad,
+        "command_line": &crash.process.command_line,
+        "environment": environment,
+        "comment": &crash.process.comments.narrow,
+        "wide_comment": &crash.process.comments.wide,
     }
+    .add(out, alloc)
 }
 
 // Returns a time stamp, or `None` if it is 0, which says nothing.
@@ -80,14 +67,11 @@ fn unless_zero(time: u32) -> Option<u32>
 }
 
 // The ids of the threads that requested and wrote the dump, if Breakpad's information has them.
-#[derive(Clone, Copy)]
-struct Breakpad<'l>(&'l Result<MinidumpBreakpadInfo, Error>);
-
-impl Members for Breakpad<'_> {
-    ghost members = { λ b. breakpad_members (result_ok (map_ok breakpad_info_stream.value b.0.now)) };
+impl Members for Result<MinidumpBreakpadInfo, Error> {
+    ghost members = { λ b. breakpad_members (result_ok (map_ok breakpad_info_stream.value b)) };
 
     fn add(&self, out: &mut Writer, alloc: Global) -> Put {
-        match self.0 {
+        match self {
             Ok(info) => members! {
                 "requesting_thread_id": info.requesting_thread_id,
                 "dump_thread_id": info.dump_thread_id,
@@ -100,25 +84,19 @@ impl Members for Breakpad<'_> {
     }
 }
 
-// What the dump holds, and what of it can't be read.
-#[derive(Clone, Copy)]
-struct FilePart<'l, 'a>(&'l Crash<'a>);
-
-impl Members for FilePart<'_, '_> {
-    ghost members = { λ part. file_members (crash_of part.0.now) };
-
-    #[tactic(auto, unfolding(crate::specs::Minidump::file_members))]
-    fn add(&self, out: &mut Writer, alloc: Global) -> Put {
-        let crash = self.0;
-        members! {
-            "status": status_of(crash),
-            "streams": &crash.directory.entries,
-            "memory": &crash.contents.space.memory,
-            "damage": &crash.damage,
-            "unreadable_modules": &crash.modules.unreadable,
-        }
-        .add(out, alloc)
+// Adds what the dump holds, and what of it can't be read.
+#[tactic(auto, unfolding(crate::specs::Minidump::file_members))]
+fn add_file(crash: &Crash<'_>, out: &mut Writer, alloc: Global) -> Put
+    ensures { Adds result out.old out.new (file_members (crash_of crash.now)) }
+{
+    members! {
+        "status": status_of(crash),
+        "streams": &crash.directory.entries,
+        "memory": &crash.contents.space.memory,
+        "damage": &crash.damage,
+        "unreadable_modules": &crash.modules.unreadable,
     }
+    .add(out, alloc)
 }
 
 // Returns the status with which the dump ends a program.
@@ -128,29 +106,24 @@ fn status_of(crash: &Crash<'_>) -> usize
     if crash.damage.is_empty() { 0 } else { 1 }
 }
 
-// What is known of the crash, the kinds of handles, the assertion and Crashpad's annotations.
-#[derive(Clone, Copy)]
-struct SignaturePart<'l, 'a, 's, 'n>(Report<'l, 'a, 's, 'n>);
-
-impl Members for SignaturePart<'_, '_, '_, '_> {
-    ghost members = { λ part. signature_members (report_of part.0) };
-
-    fn add(&self, out: &mut Writer, alloc: Global) -> Put {
-        let crash = self.0.crash;
-        let signature = signature_in(alloc, self.0)?;
-        members! {
-            "address": crash.cause.address,
-            "point": &crash.point,
-            "exceptions": &crash.cause.exceptions,
-            "exception": crash.cause.counts,
-            "signature": Optional(&signature),
-            "registers_of": Text(registers_of(&crash.threads)),
-            "handle_kinds": &crash.process.handle_kinds,
-            "assertion": Found(&crash.contents.messages.assertion),
-            "crashpad": Found(&crash.contents.messages.crashpad),
-        }
-        .add(out, alloc)
+// Adds what is known of the crash, the kinds of handles, the assertion and Crashpad's annotations.
+fn add_signature(report: &Report<'_, '_, '_, '_>, out: &mut Writer, alloc: Global) -> Put
+    ensures { Adds result out.old out.new (signature_members (report_of report.now)) }
+{
+    let crash = report.crash;
+    let signature = signature_in(alloc, *report)?;
+    members! {
+        "address": crash.cause.address,
+        "point": &crash.point,
+        "exceptions": &crash.cause.exceptions,
+        "exception": crash.cause.counts,
+        "signature": &signature,
+        "registers_of": registers_of(&crash.threads),
+        "handle_kinds": &crash.process.handle_kinds,
+        "assertion": &crash.contents.messages.assertion,
+        "crashpad": &crash.contents.messages.crashpad,
     }
+    .add(out, alloc)
 }
 
 // ---- streams
@@ -158,11 +131,10 @@ impl Members for SignaturePart<'_, '_, '_, '_> {
 impl ToJson for StreamEntry {
     ghost json = { stream_json };
 
-    #[tactic(auto, unfolding(crate::specs::Minidump::stream_json))]
     fn put(&self, out: &mut Writer, alloc: Global) -> Put {
         members! {
             "type": self.number as u64,
-            "name": TypeName(self.number),
+            "name": MINIDUMP_STREAM_TYPE::from_u32(self.number),
             "size": self.size,
             "rva": self.rva as u64,
             "error": self.error,
@@ -171,18 +143,11 @@ impl ToJson for StreamEntry {
     }
 }
 
-// The name of a type of stream, if it has one.
-#[derive(Clone, Copy)]
-struct TypeName(u32);
-
-impl ToJson for TypeName {
-    ghost json = { λ number. or_null string (option_map type_name (stream_type_of number.0)) };
+impl ToJson for MINIDUMP_STREAM_TYPE {
+    ghost json = { λ stream_type. string (type_name stream_type) };
 
     fn put(&self, out: &mut Writer, _alloc: Global) -> Put {
-        match MINIDUMP_STREAM_TYPE::from_u32(self.0) {
-            Some(stream_type) => out.string(stream_type.name()),
-            None => out.null(),
-        }
+        out.string(self.name())
     }
 }
 

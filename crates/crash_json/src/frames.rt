@@ -3,18 +3,17 @@ ghost use Rattle.std.specs.Prelude.{◌≡◌};
 ghost use Rattle.std.specs.Option.{option_copied, option_map};
 ghost use Rattle.json.specs.Json.{string};
 ghost use Rattle.crash.specs.Crash.{crash_of};
-ghost use Rattle.crash.specs.Threads.{thread_value};
+ghost use Rattle.crash_threads.specs.Threads.{thread_value};
 ghost use Rattle.crash_symbols.specs.NameParts.{call_of, function_of, source_of};
 ghost use Rattle.crash_symbols.specs.Shown.{shown_frame_of, symbolized_of};
-ghost use Rattle.crash_json.specs.Tree.{or_null};
+ghost use Rattle.crash_json.specs.Tree.{Adds, Puts, or_null};
 ghost use Rattle.crash_json.specs.ReportValue.{report_of};
 ghost use Rattle.crash_json.specs.Frames.{file_at, frame_members, function_members};
 ghost use Rattle.crash_json.specs.Frames.{inline_json, name_members, registers_json, shown_registers};
 ghost use Rattle.crash_json.specs.Frames.{source_members, trust_name};
 
-use crate::point::Named;
 use crate::report::Report;
-use crate::tree::{Members, NumberedJson, Put, Text, ToJson, members};
+use crate::tree::{Members, NumberedJson, Put, ToJson, members};
 use crash::{Crash, CrashFrame, CrashThread};
 use crash_symbols::{FrameFunction, InlinedCall, ShownFrame, SourceLine, Symbolized};
 use json::Writer;
@@ -43,49 +42,32 @@ impl<'s, 'n> NumberedJson<ShownFrame<'s, 'n>> for EachFrame<'_, '_, 's, 'n> {
         out: &mut Writer,
         alloc: Global,
     ) -> Put {
-        let registers = FrameRegisters {
-            thread: self.thread,
-            is_crashing: self.is_crashing,
-            number,
-        };
-        let names = Names {
-            symbols: self.report.symbols,
-            frame: item,
-        };
-        members! {
-            "frame": number,
-            ..Placed { crash: self.report.crash, frame: &item.frame },
-            "registers": registers,
-            ..names
-        }
-        .put_object(out, alloc)
+        out.begin_object()?;
+        out.key("frame")?;
+        number.put(out, alloc)?;
+        add_place(self.report.crash, &item.frame, out, alloc)?;
+        out.key("registers")?;
+        put_registers(self.thread, self.is_crashing, number, out, alloc)?;
+        add_names(self.report.symbols, item, out, alloc)?;
+        out.end_object()
     }
 }
 
-// Where a frame is, and how it was found.
-#[derive(Clone, Copy)]
-struct Placed<'l, 'a, 'f> {
-    crash: &'l Crash<'a>,
-    frame: &'f CrashFrame,
-}
-
-impl Members for Placed<'_, '_, '_> {
-    ghost members = { λ p. frame_members (crash_of p.crash.now).modules.loaded p.frame.now };
-
-    #[tactic(auto, unfolding(crate::specs::Frames::frame_members))]
-    fn add(&self, out: &mut Writer, alloc: Global) -> Put {
-        let frame = self.frame;
-        members! {
-            "trust": frame.trust,
-            "module": Text(file_at(self.crash, frame.module)),
-            "module_offset": offset_of(frame.module),
-            "offset": frame.address,
-            "instruction": frame.instruction,
-            "stack_pointer": frame.stack_pointer,
-            "frame_pointer": frame.frame_pointer,
-        }
-        .add(out, alloc)
+// Adds where a frame is, and how it was found.
+fn add_place(crash: &Crash<'_>, frame: &CrashFrame, out: &mut Writer, alloc: Global) -> Put
+    ensures { Adds result out.old out.new (frame_members (crash_of crash.now).modules.loaded
+        frame.now) }
+{
+    members! {
+        "trust": frame.trust,
+        "module": file_at(crash, frame.module),
+        "module_offset": offset_of(frame.module),
+        "offset": frame.address,
+        "instruction": frame.instruction,
+        "stack_pointer": frame.stack_pointer,
+        "frame_pointer": frame.frame_pointer,
     }
+    .add(out, alloc)
 }
 
 impl ToJson for FrameTrust {
@@ -121,70 +103,57 @@ fn file_at<'l>(crash: &'l Crash<'_>, place: Option<(usize, u64)>) -> Option<&'l 
 fn offset_of(place: Option<(usize, u64)>) -> Option<u64>
     ensures { result ≡ option_map (λ p. p.1) place }
 {
-    let (_, offset) = place?;
-    Some(offset)
+    Some(place?.1)
 }
 
-// The registers of a thread, for the first frame of the one that crashed.
-#[derive(Clone, Copy)]
-struct FrameRegisters<'l> {
-    thread: &'l CrashThread,
+// Puts the registers of a thread, for the first frame of the one that crashed, or `null`.
+fn put_registers(
+    thread: &CrashThread,
     is_crashing: bool,
     number: usize,
-}
-
-impl ToJson for FrameRegisters<'_> {
-    ghost json = { λ r. or_null registers_json
-        (shown_registers r.is_crashing r.number (thread_value r.thread.now)) };
-
-    fn put(&self, out: &mut Writer, alloc: Global) -> Put {
-        match &self.thread.context {
-            Some(context) if self.is_crashing && self.number == 0 => {
-                Named(&context.registers).put(out, alloc)
-            }
-            _ => out.null(),
-        }
+    out: &mut Writer,
+    alloc: Global,
+) -> Put
+    ensures { Puts result out.old out.new (or_null registers_json
+        (shown_registers is_crashing number (thread_value thread.now))) }
+{
+    match &thread.context {
+        Some(context) if is_crashing && number == 0 => context.registers.put(out, alloc),
+        _ => out.null(),
     }
 }
 
 // ---- names
 
-// The names of a frame, if symbols are known.
-#[derive(Clone, Copy)]
-struct Names<'l, 'f, 's, 'n> {
-    symbols: Option<&'l Symbolized<'s, 'n>>,
-    frame: &'f ShownFrame<'s, 'n>,
-}
-
-impl Members for Names<'_, '_, '_, '_> {
-    ghost members = { λ n. name_members (option_map symbolized_of (option_copied n.symbols))
-        (shown_frame_of n.frame.now) };
-
-    #[tactic(auto, unfolding(crate::specs::Tree::member_list_tokens), using(crate::proofs::Tokens::views))]
-    fn add(&self, out: &mut Writer, alloc: Global) -> Put {
-        let frame = self.frame;
-        match self.symbols {
-            Some(_) => members! {
-                ..Function(frame.function),
-                ..Source(frame.line),
-                "inlines": frame.inlines,
-                "missing_symbols": frame.function.is_none(),
-            }
-            .add(out, alloc),
-            None => Ok(()),
+// Adds the names of a frame, if symbols are known.
+#[tactic(auto, unfolding(crate::specs::Tree::member_list_tokens), using(crate::proofs::Tokens::views))]
+fn add_names(
+    symbols: Option<&Symbolized<'_, '_>>,
+    frame: &ShownFrame<'_, '_>,
+    out: &mut Writer,
+    alloc: Global,
+) -> Put
+    ensures { Adds result out.old out.new (name_members
+        (option_map symbolized_of (option_copied symbols.entry)) (shown_frame_of frame.now)) }
+{
+    match symbols {
+        Some(_) => members! {
+            ..frame.function,
+            ..frame.line,
+            "inlines": frame.inlines,
+            "missing_symbols": frame.function.is_none(),
         }
+        .add(out, alloc),
+        None => Ok(()),
     }
 }
 
 // A function and the offset of a frame in it, or none.
-#[derive(Clone, Copy)]
-struct Function<'n>(Option<FrameFunction<'n>>);
-
-impl Members for Function<'_> {
-    ghost members = { λ f. function_members (option_map function_of f.0) };
+impl Members for Option<FrameFunction<'_>> {
+    ghost members = { λ f. function_members (option_map function_of f) };
 
     fn add(&self, out: &mut Writer, alloc: Global) -> Put {
-        match self.0 {
+        match self {
             Some(function) => members! {
                 "function": function.name,
                 "function_offset": function.offset,
@@ -196,14 +165,11 @@ impl Members for Function<'_> {
 }
 
 // A source line, or none.
-#[derive(Clone, Copy)]
-struct Source<'n>(Option<SourceLine<'n>>);
-
-impl Members for Source<'_> {
-    ghost members = { λ s. source_members (option_map source_of s.0) };
+impl Members for Option<SourceLine<'_>> {
+    ghost members = { λ s. source_members (option_map source_of s) };
 
     fn add(&self, out: &mut Writer, alloc: Global) -> Put {
-        match self.0 {
+        match self {
             Some(source) => {
                 members! { "file": source.file, "line": source.line, }.add(out, alloc)
             }
@@ -217,6 +183,6 @@ impl ToJson for InlinedCall<'_> {
 
     #[tactic(auto, unfolding(crate::specs::Frames::inline_json))]
     fn put(&self, out: &mut Writer, alloc: Global) -> Put {
-        members! { "function": self.function, ..Source(self.source) }.put_object(out, alloc)
+        members! { "function": self.function, ..self.source }.put_object(out, alloc)
     }
 }

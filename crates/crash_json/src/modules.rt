@@ -2,15 +2,15 @@
 ghost use Rattle.std.specs.Prelude.{◌≡◌, map};
 ghost use Rattle.std.specs.Option.{option_copied, option_map};
 ghost use Rattle.json.specs.Json.{string};
-ghost use Rattle.crash_streams.specs.Modules.{loaded_of, unloaded_module_of};
+ghost use Rattle.crash_process.specs.Modules.{loaded_of, unloaded_module_of};
 ghost use Rattle.crash_symbols.specs.Shown.{symbolized_of};
-ghost use Rattle.crash_json.specs.Tree.{Adds};
+ghost use Rattle.crash_json.specs.Tree.{Adds, Puts};
 ghost use Rattle.crash_json.specs.ReportValue.{report_of};
 ghost use Rattle.crash_json.specs.Modules.{flag_members, main_module, module_members, modules_json};
-ghost use Rattle.crash_json.specs.Modules.{part_name, state_members, symbol_members, unloaded_json, unreadable_json};
+ghost use Rattle.crash_json.specs.Modules.{part_name, symbol_members, unloaded_json, unreadable_json};
 
 use crate::report::Report;
-use crate::tree::{Members, Numbered, NumberedJson, Optional, Put, ToJson, members};
+use crate::tree::{Members, Numbered, NumberedJson, Put, ToJson, members};
 use crash::{CrashModule, ModulePart, UnloadedModule, UnreadableModule};
 use crash_symbols::{SymbolState, Symbolized};
 use json::Writer;
@@ -20,24 +20,16 @@ use std::alloc::Global;
 pub(crate) fn main_module(modules: &[CrashModule]) -> Option<usize>
     ensures { result ≡ main_module (map loaded_of modules.now) }
 {
-    match modules.first() {
-        Some(_) => Some(0),
-        None => None,
-    }
+    if modules.is_empty() { None } else { Some(0) }
 }
 
-/// The modules, with what is known of the symbols of each.
-#[derive(Clone, Copy)]
-pub(crate) struct Modules<'l, 'a, 's, 'n>(pub(crate) Report<'l, 'a, 's, 'n>);
-
-impl ToJson for Modules<'_, '_, '_, '_> {
-    ghost json = { λ m. modules_json (report_of m.0).symbols
-        (report_of m.0).crash.modules.loaded };
-
-    #[tactic(auto, unfolding(crate::specs::Modules::modules_json), using(crate::proofs::Tokens::numbered_values))]
-    fn put(&self, out: &mut Writer, alloc: Global) -> Put {
-        Numbered(&self.0.crash.modules.loaded, &self.0).put(out, alloc)
-    }
+/// Puts the modules, with what is known of the symbols of each.
+#[tactic(auto, unfolding(crate::specs::Modules::modules_json), using(crate::proofs::Tokens::numbered_values))]
+pub(crate) fn put_modules(report: &Report<'_, '_, '_, '_>, out: &mut Writer, alloc: Global) -> Put
+    ensures { Puts result out.old out.new (modules_json (report_of report.now).symbols
+        (report_of report.now).crash.modules.loaded) }
+{
+    Numbered(&report.crash.modules.loaded, report).put(out, alloc)
 }
 
 impl NumberedJson<CrashModule> for Report<'_, '_, '_, '_> {
@@ -57,17 +49,16 @@ impl NumberedJson<CrashModule> for Report<'_, '_, '_, '_> {
 impl Members for CrashModule {
     ghost members = { λ m. module_members (loaded_of m) };
 
-    #[tactic(auto, unfolding(crate::specs::Modules::module_members))]
     fn add(&self, out: &mut Writer, alloc: Global) -> Put {
         members! {
             "base_addr": self.base,
             "end_addr": self.end,
             "filename": &self.file,
             "path": &self.path,
-            "code_id": Optional(&self.code_id),
-            "debug_file": Optional(&self.debug_file),
-            "debug_id": Optional(&self.debug_id),
-            "version": Optional(&self.version),
+            "code_id": &self.code_id,
+            "debug_file": &self.debug_file,
+            "debug_id": &self.debug_id,
+            "version": &self.version,
         }
         .add(out, alloc)
     }
@@ -83,26 +74,17 @@ struct ModuleSymbols<'l, 's, 'n> {
 impl Members for ModuleSymbols<'_, '_, '_> {
     ghost members = { λ m. symbol_members (option_map symbolized_of (option_copied m.symbols)) m.index };
 
-    #[tactic(auto, unfolding(crate::specs::Tree::member_list_tokens))]
+    #[tactic(auto, unfolding(crate::specs::Tree::member_list_tokens, crash_symbols::specs::Symbols::are_loaded))]
     fn add(&self, out: &mut Writer, alloc: Global) -> Put {
         match self.symbols {
-            Some(known) => known.symbols.state(self.index).add(out, alloc),
+            Some(known) => match known.symbols.state(self.index) {
+                SymbolState::Unwanted => add_flags(out, alloc, false, false, false),
+                SymbolState::Missing => add_flags(out, alloc, true, false, false),
+                SymbolState::Loaded => add_flags(out, alloc, false, true, false),
+                SymbolState::Corrupt => add_flags(out, alloc, false, false, true),
+                SymbolState::OutOfMemory => add_flags(out, alloc, true, false, false),
+            },
             None => Ok(()),
-        }
-    }
-}
-
-impl Members for SymbolState {
-    ghost members = { state_members };
-
-    #[tactic(auto, unfolding(crash_symbols::specs::Symbols::are_loaded))]
-    fn add(&self, out: &mut Writer, alloc: Global) -> Put {
-        match *self {
-            SymbolState::Unwanted => add_flags(out, alloc, false, false, false),
-            SymbolState::Missing => add_flags(out, alloc, true, false, false),
-            SymbolState::Loaded => add_flags(out, alloc, false, true, false),
-            SymbolState::Corrupt => add_flags(out, alloc, false, false, true),
-            SymbolState::OutOfMemory => add_flags(out, alloc, true, false, false),
         }
     }
 }
@@ -122,14 +104,14 @@ fn add_flags(out: &mut Writer, alloc: Global, missing: bool, loaded: bool, corru
 impl ToJson for UnloadedModule {
     ghost json = { λ m. unloaded_json (unloaded_module_of m) };
 
-    #[tactic(auto, unfolding(crate::specs::Modules::unloaded_json))]
+    #[tactic(auto, unfolding(crate::specs::Modules::unloaded_json), using(crate::proofs::Tokens::views))]
     fn put(&self, out: &mut Writer, alloc: Global) -> Put {
         members! {
             "base_addr": self.base,
             "end_addr": self.end,
             "filename": &self.file,
             "path": &self.path,
-            "code_id": Optional(&self.code_id),
+            "code_id": &self.code_id,
         }
         .put_object(out, alloc)
     }

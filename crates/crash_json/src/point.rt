@@ -1,11 +1,10 @@
 //! Where the thread that crashed stands.
 ghost use Rattle.std.specs.Prelude.{◌≡◌, IfOk, filter, map};
-ghost use Rattle.crash.specs.Addresses.{is_placed};
-ghost use Rattle.crash.specs.Point.{point_of};
+ghost use Rattle.crash_threads.specs.Addresses.{is_placed};
+ghost use Rattle.crash_threads.specs.Point.{point_of};
 ghost use Rattle.crash_json.specs.Frames.{named_json, register_members};
 ghost use Rattle.crash_json.specs.Point.{point_json, register_json, word_json};
 
-use crate::cause::Place;
 use crate::tree::{Members, Put, ToJson, members};
 use crash::{AddressFacts, CrashPoint, StackWord};
 use json::Writer;
@@ -14,7 +13,6 @@ use std::alloc::{AllocError, Global};
 impl ToJson for CrashPoint<'_> {
     ghost json = { λ p. point_json (point_of p) };
 
-    #[tactic(auto, unfolding(crate::specs::Point::point_json))]
     fn put(&self, out: &mut Writer, alloc: Global) -> Put {
         let placed = placed_of(alloc, self.registers.as_slice())?;
         members! {
@@ -22,7 +20,7 @@ impl ToJson for CrashPoint<'_> {
             "registers": &placed,
             "code": self.code,
             "words": &self.words,
-            "flags": Named(&self.flags),
+            "flags": &self.flags,
             "set_flags": &self.set_flags,
         }
         .put_object(out, alloc)
@@ -34,30 +32,27 @@ impl ToJson for StackWord {
 
     #[tactic(auto, unfolding(crate::specs::Point::word_json))]
     fn put(&self, out: &mut Writer, alloc: Global) -> Put {
-        members! { "address": self.address, "value": self.value, ..Place(self.module) }.put_object(
+        members! { "address": self.address, "value": self.value, ..self.module }.put_object(
             out, alloc,
         )
     }
 }
 
-/// Registers or flags, each by its name.
-#[derive(Clone, Copy)]
-pub(crate) struct Named<'l>(pub(crate) &'l Vec<(&'static str, u64)>);
-
-impl ToJson for Named<'_> {
-    ghost json = { λ n. named_json (map (λ r. (r.0.now, r.1)) n.0.now.items) };
+// Registers or flags, each by its name.
+impl ToJson for Vec<(&'static str, u64)> {
+    ghost json = { λ named. named_json (map (λ r. (r.0.now, r.1)) named.items) };
 
     fn put(&self, out: &mut Writer, alloc: Global) -> Put {
         self.put_object(out, alloc)
     }
 }
 
-impl Members for Named<'_> {
-    ghost members = { λ n. register_members (map (λ r. (r.0.now, r.1)) n.0.now.items) };
+impl Members for Vec<(&'static str, u64)> {
+    ghost members = { λ named. register_members (map (λ r. (r.0.now, r.1)) named.items) };
 
     #[tactic(auto, unfolding(crate::specs::Tree::member_list_tokens))]
     fn add(&self, out: &mut Writer, alloc: Global) -> Put {
-        let named = self.0.as_slice();
+        let named = self.as_slice();
         for (name, value) in named {
             out.key(*name)?;
             value.put(out, alloc)?;

@@ -1,8 +1,7 @@
 //! Handles and their kinds, what macOS keeps of a crash and of its boot, Mozilla's soft errors, and an
 //! assertion.
 ghost use Rattle.std.specs.Prelude.{◌≡◌, IfOk, IfSome};
-ghost use Rattle.std.specs.Option.{option_map};
-ghost use Rattle.json.specs.Json.{string};
+ghost use Rattle.std.specs.Option.{option_copied, option_map};
 ghost use Rattle.json.specs.Tree.{HasNumbers};
 ghost use Rattle.json.specs.Value.{value_view};
 ghost use Rattle.minidump.specs.Below.Records.Record.{mac_record_of};
@@ -10,13 +9,13 @@ ghost use Rattle.minidump.specs.Promise.{assertion_stream, handle_data_stream};
 ghost use Rattle.minidump.specs.Promise.{mac_bootargs_stream, mac_crash_info_stream};
 ghost use Rattle.minidump.specs.Promise.{soft_errors_stream};
 ghost use Rattle.minidump.specs.Below.Records.Handles.{handle_of};
-ghost use Rattle.crash_streams.specs.HandleKinds.{kind_of};
-ghost use Rattle.crash_json.specs.Tree.{or_null};
+ghost use Rattle.crash_process.specs.HandleKinds.{kind_of};
+ghost use Rattle.crash_json.specs.Tree.{array_of};
 ghost use Rattle.crash_json.specs.Records.{assertion_json, assertion_kind, boot_args_json, handle_json};
-ghost use Rattle.crash_json.specs.Records.{handles_json, kind_json, mac_crash_json};
+ghost use Rattle.crash_json.specs.Records.{kind_json, mac_crash_json};
 ghost use Rattle.crash_json.specs.Records.{mac_record_json, soft_json, value_in};
 
-use crate::tree::{Length, Members, Optional, Put, Text, ToJson, members};
+use crate::tree::{Length, Members, Put, ToJson, members};
 use crash::HandleKind;
 use json::{Reader, Scratch, Value, Writer};
 use minidump::own_streams::text_before_nul;
@@ -29,9 +28,9 @@ use std::alloc::{AllocError, Global};
 // ---- handles
 
 impl ToJson for MinidumpHandleDataStream {
-    ghost json = { λ handles. handles_json (handle_data_stream.value handles) };
+    ghost json = { λ handles. array_of handle_json (handle_data_stream.value handles) };
 
-    #[tactic(auto, unfolding(crate::specs::Records::handles_json), using(crate::proofs::Tokens::views))]
+    #[tactic(auto, using(crate::proofs::Tokens::views))]
     fn put(&self, out: &mut Writer, alloc: Global) -> Put {
         self.handles.put(out, alloc)
     }
@@ -40,12 +39,12 @@ impl ToJson for MinidumpHandleDataStream {
 impl ToJson for MinidumpHandleDescriptor {
     ghost json = { λ h. handle_json (handle_of h) };
 
-    #[tactic(auto, unfolding(crate::specs::Records::handle_json))]
+    #[tactic(auto, unfolding(crate::specs::Records::handle_json), using(crate::proofs::Tokens::views))]
     fn put(&self, out: &mut Writer, alloc: Global) -> Put {
         members! {
             "handle": self.raw.handle().copied(),
-            "type_name": Optional(&self.type_name),
-            "object_name": Optional(&self.object_name),
+            "type_name": &self.type_name,
+            "object_name": &self.object_name,
         }
         .put_object(out, alloc)
     }
@@ -65,7 +64,6 @@ impl ToJson for HandleKind {
 impl ToJson for MinidumpMacCrashInfo {
     ghost json = { λ records. mac_crash_json (mac_crash_info_stream.value records) };
 
-    #[tactic(auto, unfolding(crate::specs::Records::mac_crash_json))]
     fn put(&self, out: &mut Writer, alloc: Global) -> Put {
         members! { "num_records": Length(&self.raw), "records": &self.raw, }.put_object(out, alloc)
     }
@@ -74,17 +72,16 @@ impl ToJson for MinidumpMacCrashInfo {
 impl ToJson for RawMacCrashInfo {
     ghost json = { λ r. mac_record_json (mac_record_of r) };
 
-    #[tactic(auto, unfolding(crate::specs::Records::mac_record_json))]
     fn put(&self, out: &mut Writer, alloc: Global) -> Put {
         members! {
             "thread": self.thread().copied(),
             "dialog_mode": self.dialog_mode().copied(),
             "abort_cause": self.abort_cause().copied(),
-            "module": Text(self.module_path()),
-            "message": Text(self.message()),
-            "signature_string": Text(self.signature_string()),
-            "backtrace": Text(self.backtrace()),
-            "message2": Text(self.message2()),
+            "module": self.module_path(),
+            "message": self.message(),
+            "signature_string": self.signature_string(),
+            "backtrace": self.backtrace(),
+            "message2": self.message2(),
         }
         .put_object(out, alloc)
     }
@@ -94,9 +91,9 @@ impl ToJson for RawMacCrashInfo {
 impl ToJson for MinidumpMacBootargs {
     ghost json = { λ b. boot_args_json (mac_bootargs_stream.value b) };
 
-    #[tactic(auto, unfolding(crate::specs::Records::boot_args_json))]
+    #[tactic(auto, unfolding(crate::specs::Records::boot_args_json), using(crate::proofs::Tokens::views))]
     fn put(&self, out: &mut Writer, alloc: Global) -> Put {
-        Optional(&self.bootargs).put(out, alloc)
+        self.bootargs.put(out, alloc)
     }
 }
 
@@ -143,34 +140,28 @@ fn value_in<'a>(
 impl ToJson for MinidumpAssertion {
     ghost json = { λ a. assertion_json (assertion_stream.value a) };
 
-    #[tactic(auto, unfolding(crate::specs::Records::assertion_json))]
     fn put(&self, out: &mut Writer, alloc: Global) -> Put {
         let expression = text_before_nul(alloc, &self.raw.expression)?;
         let function = text_before_nul(alloc, &self.raw.function)?;
         let file = text_before_nul(alloc, &self.raw.file)?;
         members! {
-            "kind": AssertionKind(self.raw._type),
-            "expression": Optional(&expression),
-            "function": Optional(&function),
-            "file": Optional(&file),
+            "kind": assertion_kind(self.raw._type),
+            "expression": &expression,
+            "function": &function,
+            "file": &file,
             "line": self.raw.line,
         }
         .put_object(out, alloc)
     }
 }
 
-// The kind of an assertion, of those that Breakpad has.
-#[derive(Clone, Copy)]
-struct AssertionKind(u32);
-
-impl ToJson for AssertionKind {
-    ghost json = { λ kind. or_null string (assertion_kind kind.0) };
-
-    fn put(&self, out: &mut Writer, alloc: Global) -> Put {
-        match self.0 {
-            1 => "invalid parameter".put(out, alloc),
-            2 => "pure virtual call".put(out, alloc),
-            _ => out.null(),
-        }
+// Returns the words for the kind of an assertion, of those that Breakpad has.
+fn assertion_kind(kind: u32) -> Option<&'static str>
+    ensures { option_copied result ≡ assertion_kind kind }
+{
+    match kind {
+        1 => Some("invalid parameter"),
+        2 => Some("pure virtual call"),
+        _ => None,
     }
 }

@@ -1,8 +1,7 @@
 //! The signature of a crash: why it crashed, and in which functions.
-ghost use Rattle.std.specs.Prelude.{◌≡◌, ◌++◌, [], IfOk, OnOk, codes, flat_map, map, string_bytes};
-ghost use Rattle.std.specs.List.{cons_option};
+ghost use Rattle.std.specs.Prelude.{◌≡◌, ◌++◌, IfOk, codes, flat_map, map, string_bytes};
 ghost use Rattle.std.specs.Option.{option_copied, option_map};
-ghost use Rattle.crash_streams.specs.Modules.{loaded_of};
+ghost use Rattle.crash_process.specs.Modules.{loaded_of};
 ghost use Rattle.crash_symbols.specs.Shown.{shown_frame_of};
 ghost use Rattle.crash_json.specs.ReportValue.{report_of};
 ghost use Rattle.crash_json.specs.Signature.{crashed_frames, joined, mark_of, marks_in};
@@ -64,27 +63,14 @@ fn marks_in(
 {
     let mut marks = Vec::new(alloc);
     for frame in frames {
-        if marks.len() == FRAMES {
+        if marks.len() >= FRAMES {
             return Ok(marks);
         }
-        push_mark(&mut marks, modules, frame)?;
+        if let Some(mark) = mark_of(alloc, modules, frame)? {
+            marks.push(mark)?;
+        }
     }
     Ok(marks)
-}
-
-// Appends the words for a frame, if it is in a module.
-fn push_mark(
-    marks: &mut Vec<String>,
-    modules: &[CrashModule],
-    frame: &ShownFrame<'_, '_>,
-) -> Result<(), AllocError>
-    ensures { OnOk result (map string_bytes marks.new.items ≡ map string_bytes marks.old.items
-        ++ cons_option (mark_of (map loaded_of modules.now) (shown_frame_of frame.now)) []) }
-{
-    if let Some(mark) = mark_of(*marks.allocator(), modules, frame)? {
-        marks.push(mark)?;
-    }
-    Ok(())
 }
 
 // Makes the words for a frame, if it is in a module: the name of its function or, if that isn't known, the

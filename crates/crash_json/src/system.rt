@@ -5,13 +5,13 @@ ghost use Rattle.minidump.specs.Below.Contexts.Context.{map_ok};
 ghost use Rattle.minidump.specs.Below.System.Cpu.{cpu_name};
 ghost use Rattle.minidump.specs.Below.System.Os.{os_long_name};
 ghost use Rattle.minidump.specs.Promise.{linux_environ_stream, linux_proc_limits_stream};
-ghost use Rattle.crash_streams.specs.Linux.{limit_of};
-ghost use Rattle.crash_streams.specs.Process.{system_of};
-ghost use Rattle.crash_streams.specs.Release.{release_of};
+ghost use Rattle.crash_process.specs.Linux.{limit_of};
+ghost use Rattle.crash_process.specs.Process.{system_of};
+ghost use Rattle.crash_process.specs.Release.{release_of};
 ghost use Rattle.crash_json.specs.System.{environment_json, limit_json, limits_json, release_json};
 ghost use Rattle.crash_json.specs.System.{system_json, variable_json, with_build};
 
-use crate::tree::{Members, Optional, Put, ToJson, members};
+use crate::tree::{Members, Put, ToJson, members};
 use crash::{CrashSystem, LsbRelease, ProcessLimit, limits_of, variables_of};
 use json::Writer;
 use minidump::strings::LinuxOsStr;
@@ -24,15 +24,14 @@ use std::alloc::{AllocError, Global};
 impl ToJson for CrashSystem {
     ghost json = { λ s. system_json (system_of s) };
 
-    #[tactic(auto, unfolding(crate::specs::System::system_json))]
     fn put(&self, out: &mut Writer, alloc: Global) -> Put {
         members! {
             "os": self.os,
             "os_ver": Version(self),
             "cpu_arch": self.cpu,
-            "cpu_info": Optional(&self.cpu_model),
+            "cpu_info": &self.cpu_model,
             "cpu_count": self.processors,
-            "cpu_microcode_version": Optional(&self.microcode),
+            "cpu_microcode_version": &self.microcode,
         }
         .put_object(out, alloc)
     }
@@ -82,13 +81,13 @@ impl ToJson for Version<'_> {
 impl ToJson for LsbRelease {
     ghost json = { λ r. release_json (release_of r) };
 
-    #[tactic(auto, unfolding(crate::specs::System::release_json))]
+    #[tactic(auto, unfolding(crate::specs::System::release_json), using(crate::proofs::Tokens::views))]
     fn put(&self, out: &mut Writer, alloc: Global) -> Put {
         members! {
-            "id": Optional(&self.id),
-            "release": Optional(&self.release),
-            "codename": Optional(&self.codename),
-            "description": Optional(&self.description),
+            "id": &self.id,
+            "release": &self.release,
+            "codename": &self.codename,
+            "description": &self.description,
         }
         .put_object(out, alloc)
     }
@@ -109,13 +108,12 @@ impl ToJson for MinidumpLinuxProcLimits<'_> {
 impl ToJson for ProcessLimit {
     ghost json = { λ l. limit_json (limit_of l) };
 
-    #[tactic(auto, unfolding(crate::specs::System::limit_json))]
     fn put(&self, out: &mut Writer, alloc: Global) -> Put {
         members! {
             "name": &self.name,
             "soft": &self.soft,
             "hard": &self.hard,
-            "unit": Optional(&self.unit),
+            "unit": &self.unit,
         }
         .put_object(out, alloc)
     }

@@ -2,8 +2,9 @@
 ghost use Rattle.std.specs.Prelude.{◌≡◌, IfOk, length, map, take};
 ghost use Rattle.std.specs.Option.{option_copied, option_map};
 ghost use Rattle.json.specs.Json.{string};
-ghost use Rattle.crash.specs.Threads.{thread_value, threads_of};
+ghost use Rattle.crash_threads.specs.Threads.{thread_value, threads_of};
 ghost use Rattle.crash_symbols.specs.Shown.{shown_frame_of, shown_of};
+ghost use Rattle.crash_json.specs.Tree.{Adds, Puts};
 ghost use Rattle.crash_json.specs.ReportValue.{report_of};
 ghost use Rattle.crash_json.specs.Threads.{candidates_in, crashing_json, end_name, frames_in};
 ghost use Rattle.crash_json.specs.Threads.{index_members, range_json, registers_of, short_json, thread_members};
@@ -11,7 +12,7 @@ ghost use Rattle.crash_json.specs.Threads.{threads_json};
 
 use crate::frames::EachFrame;
 use crate::report::Report;
-use crate::tree::{Decimal, Members, Numbered, NumberedJson, Optional, Put, ToJson, members};
+use crate::tree::{Decimal, Members, Numbered, NumberedJson, Put, ToJson, members};
 use crash::{ContextOrigin, CrashThread, CrashThreads, ShortContext, StackRange};
 use crash_symbols::{ShownFrame, ShownWalk, shown_walk};
 use json::Writer;
@@ -42,70 +43,50 @@ impl NumberedJson<CrashThread> for EachThread<'_, '_, '_, '_> {
             is_crashing,
         };
         out.begin_object()?;
-        ThreadIndex {
-            is_crashing,
-            number,
-        }
-        .add(out, alloc)?;
-        ThreadPart {
-            thread: item,
-            walk: &walk,
-        }
-        .add(out, alloc)?;
+        add_index(is_crashing, number, out, alloc)?;
+        add_thread(item, &walk, out, alloc)?;
         out.key("frames")?;
         Numbered(&frames, &by).put(out, alloc)?;
         out.end_object()
     }
 }
 
-// The index of a thread, if it is written as the one that crashed.
-#[derive(Clone, Copy)]
-struct ThreadIndex {
-    is_crashing: bool,
-    number: usize,
-}
-
-impl Members for ThreadIndex {
-    ghost members = { λ i. index_members i.is_crashing i.number };
-
-    #[tactic(auto, unfolding(crate::specs::Tree::member_list_tokens))]
-    fn add(&self, out: &mut Writer, alloc: Global) -> Put {
-        if self.is_crashing {
-            members! { "threads_index": self.number, }.add(out, alloc)
-        } else {
-            Ok(())
-        }
+// Adds the index of a thread, if it is written as the one that crashed.
+#[tactic(auto, unfolding(crate::specs::Tree::member_list_tokens))]
+fn add_index(is_crashing: bool, number: usize, out: &mut Writer, alloc: Global) -> Put
+    ensures { Adds result out.old out.new (index_members is_crashing number) }
+{
+    if is_crashing {
+        members! { "threads_index": number, }.add(out, alloc)
+    } else {
+        Ok(())
     }
 }
 
-// A thread and what is shown of it, but for the frames.
-#[derive(Clone, Copy)]
-struct ThreadPart<'t, 'w, 's, 'n> {
-    thread: &'t CrashThread,
-    walk: &'w Option<ShownWalk<'s, 'n>>,
-}
-
-impl Members for ThreadPart<'_, '_, '_, '_> {
-    ghost members = { λ part. thread_members (thread_value part.thread.now)
-        (option_map shown_of part.walk.now) };
-
-    fn add(&self, out: &mut Writer, alloc: Global) -> Put {
-        let thread = self.thread;
-        members! {
-            "thread_id": thread.id,
-            "thread_name": Optional(&thread.name),
-            "is_listed": thread.is_listed,
-            "last_error_value": Optional(&thread.last_error),
-            "frame_count": frame_count(self.walk),
-            "candidate_count": candidate_count(self.walk),
-            "stack": thread.stack,
-            "stack_memory": thread.stack_memory,
-            "context_problem": thread.context_problem,
-            "short_context": thread.short_context(),
-            "end": end_of(self.walk),
-        }
-        .add(out, alloc)
+// Adds a thread and what is shown of it, but for the frames.
+fn add_thread(
+    thread: &CrashThread,
+    walk: &Option<ShownWalk<'_, '_>>,
+    out: &mut Writer,
+    alloc: Global,
+) -> Put
+    ensures { Adds result out.old out.new (thread_members (thread_value thread.now)
+        (option_map shown_of walk.now)) }
+{
+    members! {
+        "thread_id": thread.id,
+        "thread_name": &thread.name,
+        "is_listed": thread.is_listed,
+        "last_error_value": &thread.last_error,
+        "frame_count": frame_count(walk),
+        "candidate_count": candidate_count(walk),
+        "stack": thread.stack,
+        "stack_memory": thread.stack_memory,
+        "context_problem": thread.context_problem,
+        "short_context": thread.short_context(),
+        "end": end_of(walk),
     }
+    .add(out, alloc)
 }
 
 // Returns the first frames of what is shown of a thread, or none if nothing is.
@@ -127,30 +108,22 @@ fn first_frames<'s, 'n>(
 fn frame_count(walk: &Option<ShownWalk<'_, '_>>) -> usize
     ensures { result ≡ length (frames_in (option_map shown_of walk.now)) }
 {
-    match walk {
-        Some(walk) => walk.frames.len() + walk.candidates.len(),
-        None => 0,
-    }
+    walk.as_ref()
+        .map_or(0, |walk| walk.frames.len() + walk.candidates.len())
 }
 
 // Returns how many candidates there are.
 fn candidate_count(walk: &Option<ShownWalk<'_, '_>>) -> usize
     ensures { result ≡ length (candidates_in (option_map shown_of walk.now)) }
 {
-    match walk {
-        Some(walk) => walk.candidates.len(),
-        None => 0,
-    }
+    walk.as_ref().map_or(0, |walk| walk.candidates.len())
 }
 
 // Returns why the last frame has no caller.
 fn end_of(walk: &Option<ShownWalk<'_, '_>>) -> Option<SymbolWalkEnd>
     ensures { result ≡ option_map (λ w. w.end) (option_map shown_of walk.now) }
 {
-    match walk {
-        Some(walk) => Some(walk.end),
-        None => None,
-    }
+    Some(walk.as_ref()?.end)
 }
 
 impl ToJson for SymbolWalkEnd {
@@ -198,41 +171,31 @@ impl ToJson for ShortContext {
     }
 }
 
-/// The threads.
-#[derive(Clone, Copy)]
-pub(crate) struct Threads<'l, 'a, 's, 'n>(pub(crate) Report<'l, 'a, 's, 'n>);
-
-impl ToJson for Threads<'_, '_, '_, '_> {
-    ghost json = { λ t. threads_json (report_of t.0) };
-
-    #[tactic(auto, unfolding(crate::specs::Threads::threads_json), using(crate::proofs::Tokens::numbered_values))]
-    fn put(&self, out: &mut Writer, alloc: Global) -> Put {
-        let by = EachThread {
-            report: self.0,
-            is_crashing: false,
-        };
-        Numbered(&self.0.crash.threads.threads, &by).put(out, alloc)
-    }
+/// Puts the threads.
+#[tactic(auto, unfolding(crate::specs::Threads::threads_json), using(crate::proofs::Tokens::numbered_values))]
+pub(crate) fn put_threads(report: &Report<'_, '_, '_, '_>, out: &mut Writer, alloc: Global) -> Put
+    ensures { Puts result out.old out.new (threads_json (report_of report.now)) }
+{
+    let by = EachThread {
+        report: *report,
+        is_crashing: false,
+    };
+    Numbered(&report.crash.threads.threads, &by).put(out, alloc)
 }
 
 // ---- the thread that crashed
 
-/// The thread that crashed, or none.
-#[derive(Clone, Copy)]
-pub(crate) struct Crashing<'l, 'a, 's, 'n>(pub(crate) Report<'l, 'a, 's, 'n>);
-
-impl ToJson for Crashing<'_, '_, '_, '_> {
-    ghost json = { λ c. crashing_json (report_of c.0) };
-
-    fn put(&self, out: &mut Writer, alloc: Global) -> Put {
-        let by = EachThread {
-            report: self.0,
-            is_crashing: true,
-        };
-        match self.0.crash.threads.crashed() {
-            Some((number, thread)) => by.put_at(number, thread, out, alloc),
-            None => out.null(),
-        }
+/// Puts the thread that crashed, or `null`.
+pub(crate) fn put_crashing(report: &Report<'_, '_, '_, '_>, out: &mut Writer, alloc: Global) -> Put
+    ensures { Puts result out.old out.new (crashing_json (report_of report.now)) }
+{
+    let by = EachThread {
+        report: *report,
+        is_crashing: true,
+    };
+    match report.crash.threads.crashed() {
+        Some((number, thread)) => by.put_at(number, thread, out, alloc),
+        None => out.null(),
     }
 }
 

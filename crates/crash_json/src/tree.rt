@@ -4,7 +4,6 @@
 //! value has its number in it. A type that stands for members of an object adds them by [`Members`], and
 //! `members!` lists members, each by its name.
 ghost use Rattle.std.specs.Prelude.{ℕ, List, [], ◌∷◌, ◌++◌, length, string_bytes};
-ghost use Rattle.std.specs.Option.{option_copied, option_map};
 ghost use Rattle.std.specs.Result.{result_ok};
 ghost use Rattle.json.specs.Json.{Json, boolean, null, string};
 ghost use Rattle.crash_json.specs.Tree.{Adds, Puts, array_of, count, hex_string};
@@ -187,36 +186,6 @@ impl ToJson for String {
     }
 }
 
-/// A text, or `null`.
-#[derive(Clone, Copy)]
-pub(crate) struct Text<'l>(pub(crate) Option<&'l str>);
-
-impl ToJson for Text<'_> {
-    ghost json = { λ text. or_null string (option_copied text.0) };
-
-    fn put(&self, out: &mut Writer, _alloc: Global) -> Put {
-        match self.0 {
-            Some(text) => out.string(text),
-            None => out.null(),
-        }
-    }
-}
-
-/// A text that is owned, or `null`.
-#[derive(Clone, Copy)]
-pub(crate) struct Optional<'l>(pub(crate) &'l Option<String>);
-
-impl ToJson for Optional<'_> {
-    ghost json = { λ text. or_null string (option_map string_bytes text.0.now) };
-
-    fn put(&self, out: &mut Writer, _alloc: Global) -> Put {
-        match self.0 {
-            Some(text) => out.string(text.as_str()),
-            None => out.null(),
-        }
-    }
-}
-
 // A text that Linux wrote: what isn't UTF-8 is U+FFFD.
 impl ToJson for LinuxOsStr<'_> {
     ghost use Rattle.std.specs.Str.Lossy.{utf8_lossy};
@@ -252,15 +221,12 @@ impl<T: ToJson> ToJson for Option<T> {
     }
 }
 
-/// The value of a stream, or `null` if it can't be read.
-#[derive(Clone, Copy)]
-pub(crate) struct Found<'l, T>(pub(crate) &'l Result<T, Error>);
-
-impl<T: ToJson> ToJson for Found<'_, T> {
-    ghost json = { λ found. or_null T.json (result_ok found.0.now) };
+// The value of a stream, or `null` if it can't be read.
+impl<T: ToJson> ToJson for Result<T, Error> {
+    ghost json = { λ found. or_null T.json (result_ok found) };
 
     fn put(&self, out: &mut Writer, alloc: Global) -> Put {
-        match self.0 {
+        match self {
             Ok(item) => item.put(out, alloc),
             Err(_) => out.null(),
         }

@@ -1,12 +1,12 @@
 -- An escaped text has no control characters, and one without any is its own.
-use Rattle.std.proofs.Common.{◌≡◌, ℕ, ◌<◌, Bool, true, false, not, List, [], ◌∷◌, ap, append-nil, refl, ◌∙◌, ⊎_elim, arith, chars, codes}
+use Rattle.std.proofs.Common.{◌≡◌, ℕ, ◌<◌, Bool, true, false, List, [], ◌∷◌, ap, append-nil, refl, ◌∙◌, ⊎_elim, arith, chars, codes}
 use Rattle.std.proofs.Common.{encode_utf8_all, nat_lt, IsUtf8}
 use Rattle.std.proofs.lemmas.Bool.{and_from, and_parts, cases_Bool, or_parts}
 use Rattle.std.proofs.lemmas.Bool.Decides.{nat_tests}
 use Rattle.std.proofs.lemmas.Fmt.{digits_is_IsNumeral}
 use Rattle.std.proofs.lemmas.List.Concat.{flat_map-cons}
 use Rattle.std.proofs.lemmas.List.Folds.{list_all-append}
-use Rattle.std.proofs.lemmas.Str.{encode_ascii, encodes-chars}
+use Rattle.std.proofs.lemmas.Str.{encode_ascii, encodes-append, encodes-chars}
 use Rattle.std.specs.Char.{digit_value}
 use Rattle.std.specs.Fmt.{digits}
 use Rattle.std.specs.List.{flat_map, list_all, list_any}
@@ -15,10 +15,6 @@ use native.Mathlib.Nat.{lt_trans}
 use lib.Dec.{lit<}
 use lib.Utf8.{encode}
 use Rattle.crash_lines.specs.Escape.{escape, escape_char, escaped_text, is_control, is_printed}
-
--- a character stands as it is
-abbrev pub stands : ℕ → Bool
-stands c = not (is_control c)
 
 -- ---- escapes
 
@@ -37,13 +33,7 @@ escape_all p each before after c h =
     let number : list_all p (digits 16 false c) ≡ true = all_digits p each (digits 16 false c) numeral.0.1 in
     rw (list_all-append p (codes "\\u{"), list_all-append p (digits 16 false c)) (and_from _ _ before (and_from _ _ number after))
 
-digit_stands : (d : ℕ) → digit_value d < 16 → stands d ≡ true
-digit_stands d h = grind (arith, nat_tests)
-
 -- an escape is of ASCII
-digit_ascii : (d : ℕ) → digit_value d < 16 → nat_lt d 128 ≡ true
-digit_ascii d h = grind (arith, nat_tests)
-
 below : (b : ℕ) → nat_lt b 128 ≡ true → b < 128
 below b h = grind (arith, nat_tests)
 
@@ -55,33 +45,30 @@ ascii_bytes (b ∷ bs) h =
 
 -- the bytes of an escape
 pub escape_bytes : (c : ℕ) → is_control c ≡ true → encode_utf8_all (flat_map escape_char (c ∷ [])) ≡ escape c
-escape_bytes c h = rw h (ap encode_utf8_all (append-nil (escape c)) ∙ ascii_bytes (escape c) (escape_all (λ b. nat_lt b 128) digit_ascii refl refl c h))
-
-char_stands : (c : ℕ) → list_all stands (escape_char c) ≡ true
-char_stands c = ⊎_elim
-    (λ (h : is_control c ≡ true). rw h (escape_all stands digit_stands refl refl c h))
-    (λ (h : is_control c ≡ false). rw (h, h) refl)
-    (cases_Bool (is_control c))
-
-text_stands : (cs : List ℕ) → list_all stands (flat_map escape_char cs) ≡ true
-text_stands [] = refl
-text_stands (c ∷ cs) = rw (flat_map-cons, list_all-append) (and_from _ _ (char_stands c) (text_stands cs))
+escape_bytes c h =
+    rw h (ap encode_utf8_all (append-nil (escape c)) ∙ ascii_bytes (escape c) (escape_all (λ b. nat_lt b 128) (λ d is. grind (arith, nat_tests)) refl refl c h))
 
 -- ---- bytes
 
-char_printed : (c : ℕ) → stands c ≡ true → list_all is_printed (encode c) ≡ true
+char_printed : (c : ℕ) → is_control c ≡ false → list_all is_printed (encode_utf8_all (c ∷ [])) ≡ true
 unfolding encode
 char_printed c h = grind (arith, nat_tests)
 
-chars_printed : (cs : List ℕ) → list_all stands cs ≡ true → list_all is_printed (encode_utf8_all cs) ≡ true
-chars_printed [] h = refl
-chars_printed (c ∷ cs) h =
-    let p = and_parts (stands c) (list_all stands cs) h in
-    rw list_all-append (and_from _ _ (char_printed c p.0) (chars_printed cs p.1))
+-- the bytes that a character is printed as
+each_printed : (c : ℕ) → list_all is_printed (encode_utf8_all (flat_map escape_char (c ∷ []))) ≡ true
+each_printed c = ⊎_elim
+    (λ (h : is_control c ≡ true). rw (escape_bytes c h) (escape_all is_printed (λ d is. grind (arith, nat_tests)) refl refl c h))
+    (λ (h : is_control c ≡ false). rw h (char_printed c h))
+    (cases_Bool (is_control c))
+
+chars_printed : (cs : List ℕ) → list_all is_printed (encode_utf8_all (flat_map escape_char cs)) ≡ true
+chars_printed [] = refl
+chars_printed (c ∷ cs) =
+    rw (flat_map-cons, ← append-nil (escape_char c), encodes-append, list_all-append) (and_from _ _ (each_printed c) (chars_printed cs))
 
 -- each byte of an escaped text is printed
 pub escaped_printed : (text : List ℕ) → list_all is_printed (escaped_text text) ≡ true
-escaped_printed text = chars_printed (flat_map escape_char (chars text)) (text_stands (chars text))
+escaped_printed text = chars_printed (chars text)
 
 -- ---- texts without control characters
 

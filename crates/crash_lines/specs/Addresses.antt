@@ -1,15 +1,14 @@
 -- The line of an address, with what is known of it.
-use Rattle.std.specs.Prelude.{ℕ, Bool, true, false, List, [], ◌∷◌, codes, not, slice_get}
-use Rattle.std.specs.Prelude.{Option, Some, None}
+use Rattle.std.specs.Prelude.{ℕ, List, [], ◌∷◌, codes, not, slice_get, Option, Some, None}
 use Rattle.std.specs.List.{concat}
 use Rattle.std.specs.Option.{option_and_then, option_map}
 use Rattle.minidump.specs.Below.Bytes.Piece.{hex}
-use Rattle.crash.specs.declared.addresses.AddressFacts.{AddressFacts}
-use Rattle.crash.specs.declared.addresses.AddressMemory.{AddressMemory}
-use Rattle.crash.specs.declared.addresses.RegionState.{RegionState}
-use Rattle.crash.specs.declared.addresses.RegionState.TheVariants.{Committed, Free, Reserved}
+use Rattle.crash_threads.specs.declared.addresses.AddressFacts.{AddressFacts}
+use Rattle.crash_threads.specs.declared.addresses.AddressMemory.{AddressMemory}
+use Rattle.crash_threads.specs.declared.addresses.RegionState.{RegionState}
+use Rattle.crash_threads.specs.declared.addresses.RegionState.TheVariants.{Committed, Free, Reserved}
 use Rattle.crash.specs.Crash.{CrashValue}
-use Rattle.crash_lines.specs.Words.{hex_if, id_if, place_text, text_if, words_if}
+use Rattle.crash_lines.specs.Words.{hex_if, id_if, place_text, text_if, words_or}
 
 -- the path of the unloaded module of an index
 abbrev pub unloaded_path : CrashValue → Option ℕ → Option (List ℕ)
@@ -20,16 +19,12 @@ unloaded_path c index =
 abbrev pub thread_id : CrashValue → Option ℕ → Option ℕ
 thread_id c index = option_map (λ t. t.id) (option_and_then (slice_get c.threads.threads) index)
 
--- a letter for a right, and a dash where it is absent
-abbrev pub right_letter : List ℕ → Bool → List ℕ
-right_letter letter true = letter
-right_letter letter false = codes "-"
-
--- the rights of memory
+-- the rights of memory, and a dash for each that is absent
 abbrev pub rights_words : AddressMemory → List ℕ
-rights_words m = concat (codes ", memory " ∷ right_letter (codes "r") m.is_readable
-    ∷ right_letter (codes "w") m.is_writable ∷ right_letter (codes "x") m.is_executable
-    ∷ words_if m.is_guarded (codes " guarded") ∷ [])
+rights_words m = concat (codes ", memory " ∷ words_or m.is_readable (codes "r") (codes "-")
+    ∷ words_or m.is_writable (codes "w") (codes "-")
+    ∷ words_or m.is_executable (codes "x") (codes "-")
+    ∷ words_or m.is_guarded (codes " guarded") [] ∷ [])
 
 -- its memory, by the state and then by the rights
 abbrev pub state_words : RegionState → AddressMemory → List ℕ
@@ -48,12 +43,8 @@ memory_words None = []
 unfoldable pub address_line : CrashValue → List ℕ → List ℕ → List ℕ → AddressFacts → List ℕ
 address_line c indent name nowhere a = concat (indent ∷ name ∷ codes " " ∷ hex a.address
     ∷ place_text c.modules.loaded nowhere a.«module» ∷ hex_if (codes ", null + ") a.null_offset
-    ∷ words_if (not a.is_canonical) (codes ", not canonical")
+    ∷ words_or (not a.is_canonical) (codes ", not canonical") []
     ∷ text_if (codes ", in unloaded ") (unloaded_path c a.unloaded) []
     ∷ id_if (codes ", in the stack of thread ") (thread_id c a.stack_of)
     ∷ id_if (codes ", below the stack of thread ") (thread_id c a.below_stack)
     ∷ memory_words a.memory ∷ [])
-
--- the line of the address of the crash
-abbrev pub address_lines : CrashValue → AddressFacts → List (List ℕ)
-address_lines c a = address_line c [] (codes "address") [] a ∷ []

@@ -5,12 +5,12 @@ use Rattle.std.specs.Fmt.{decimal}
 use Rattle.std.specs.List.{concat, enumerate_from}
 use Rattle.minidump.specs.declared.Error.{Error}
 use Rattle.minidump.specs.Below.Bytes.Piece.{hex}
-use Rattle.crash.specs.declared.contexts.ContextProblem.{ContextProblem}
-use Rattle.crash.specs.declared.contexts.ContextProblem.TheVariants.{NoSystem, NotAccepted, Outside}
-use Rattle.crash.specs.Cause.{ExceptionValue}
-use Rattle.crash.specs.Counting.{counted}
+use Rattle.crash_threads.specs.declared.contexts.ContextProblem.{ContextProblem}
+use Rattle.crash_threads.specs.declared.contexts.ContextProblem.TheVariants.{NoSystem, NotAccepted, Outside}
+use Rattle.crash_threads.specs.Cause.{ExceptionValue}
+use Rattle.crash_threads.specs.Counting.{counted}
 use Rattle.crash.specs.Crash.{CrashValue}
-use Rattle.crash_lines.specs.Addresses.{address_lines}
+use Rattle.crash_lines.specs.Addresses.{address_line}
 use Rattle.crash_lines.specs.Lines.{if_some, table}
 use Rattle.crash_lines.specs.Point.{point_lines}
 use Rattle.crash_lines.specs.Records.{record_text}
@@ -28,13 +28,10 @@ cause_lines e = table (
     ∷ (text_if (codes "description ") e.description [] ∷ [])
     ∷ [])
 
--- the line of the thread that crashed
-unfoldable pub crashed_row : ℕ → List ℕ
-crashed_row thread = concat (codes "crashed thread " ∷ id_words thread ∷ [])
-
--- the crash, by the exception that counts
-abbrev pub counted_lines : CrashValue → ExceptionValue → List (List ℕ)
-counted_lines c e = crashed_row e.thread ∷ (if_some (address_lines c) c.cause.address
+-- the crash, by the exception that counts: the thread that crashed, its address, and the rest
+unfoldable pub counted_lines : CrashValue → ExceptionValue → List (List ℕ)
+counted_lines c e = concat (codes "crashed thread " ∷ id_words e.thread ∷ [])
+    ∷ (if_some (λ a. address_line c [] (codes "address") [] a ∷ []) c.cause.address
     ++ (cause_lines e ++ (registers_lines c e ++ point_lines c)))
 
 -- ---- the exceptions

@@ -8,11 +8,11 @@ use Rattle.minidump.specs.Below.Bytes.Piece.{hex}
 use Rattle.minidump.specs.Below.Format.Guid.{guid_text}
 use Rattle.minidump.specs.Below.Records.Assertion.{text_or_empty}
 use Rattle.minidump.specs.Below.System.Cpu.{cpu_name}
-use Rattle.crash.specs.Cause.{exception_of}
-use Rattle.crash_streams.specs.Modules.{loaded_of}
+use Rattle.crash_threads.specs.Cause.{exception_of}
+use Rattle.crash_process.specs.Modules.{loaded_of}
 use Rattle.crash_lines.specs.declared.parts.Part.{Part}
 use Rattle.crash_lines.specs.declared.parts.Part.TheVariants.{Code, Count, Cpu, Decimal, DecimalIf}
-use Rattle.crash_lines.specs.declared.parts.Part.TheVariants.{Failed, Flags, Guid, Hex, HexIf, HexOr}
+use Rattle.crash_lines.specs.declared.parts.Part.TheVariants.{Failed, Flags, Guid, Hex, HexIf}
 use Rattle.crash_lines.specs.declared.parts.Part.TheVariants.{HexUnless, Id, If, Key, Lossy, Memory}
 use Rattle.crash_lines.specs.declared.parts.Part.TheVariants.{Names, Os, Place, Record, Registers}
 use Rattle.crash_lines.specs.declared.parts.Part.TheVariants.{Line, Said, Short, Stream, Text}
@@ -22,21 +22,20 @@ use Rattle.crash_lines.specs.Point.{code_at, flag_words, names_after}
 use Rattle.crash_lines.specs.Records.{record_text}
 use Rattle.crash_lines.specs.Registers.{register_words, short_if}
 use Rattle.crash_lines.specs.System.{system_name}
-use Rattle.crash_lines.specs.Words.{count_if, decimal_if, error_words, hex_if, hex_or, hex_unless}
+use Rattle.crash_lines.specs.Words.{count_if, decimal_if, error_words, hex_if, hex_unless}
 use Rattle.crash_lines.specs.Words.{id_if, lossy_if, or_empty, place_text, text_after, text_if}
-use Rattle.crash_lines.specs.Words.{key_text, line_text, stream_text, version_text, words_if}
+use Rattle.crash_lines.specs.Words.{key_text, line_text, stream_text, version_text, words_or}
 
 -- what a part of a row writes
 abbrev pub part_text : Part → List ℕ
 part_text (Words words) = words.now
-part_text (If is_so words) = words_if is_so words.now
+part_text (If is_so words) = words_or is_so words.now []
 part_text (Decimal n) = decimal n
 part_text (DecimalIf before n after) = decimal_if before.now n after.now
 part_text (Count before n after) = count_if before.now n after.now
 part_text (Hex n) = hex n
 part_text (HexIf words n) = hex_if words.now n
 part_text (HexUnless known words n) = hex_unless known words.now n
-part_text (HexOr n words) = hex_or n words.now
 part_text (Id words id) = id_if words.now id
 part_text (Text before text after) =
     text_if before.now (option_map string_bytes text.now) after.now

@@ -4,12 +4,12 @@ use Rattle.std.specs.Prelude.{if◌then◌else◌}
 use Rattle.std.specs.List.{concat, flat_map, list_any}
 use Rattle.std.specs.Option.{option_map_or}
 use Rattle.minidump.specs.Below.Bytes.Piece.{hex, wide_hex}
-use Rattle.crash.specs.declared.addresses.AddressFacts.{AddressFacts}
-use Rattle.crash.specs.declared.point.StackWord.{StackWord}
-use Rattle.crash.specs.Addresses.{is_placed}
+use Rattle.crash_threads.specs.declared.addresses.AddressFacts.{AddressFacts}
+use Rattle.crash_threads.specs.declared.point.StackWord.{StackWord}
+use Rattle.crash_threads.specs.Addresses.{is_placed}
 use Rattle.crash.specs.Crash.{CrashValue}
-use Rattle.crash_streams.specs.Modules.{LoadedValue}
-use Rattle.crash.specs.Point.{PointValue}
+use Rattle.crash_process.specs.Modules.{LoadedValue}
+use Rattle.crash_threads.specs.Point.{PointValue}
 use Rattle.crash_lines.specs.Addresses.{address_line}
 use Rattle.crash_lines.specs.Lines.{if_some, table}
 use Rattle.crash_lines.specs.Words.{place_text}

@@ -1,13 +1,13 @@
 -- The words for what the record of an exception says beside its code and where it happened.
-use Rattle.std.specs.Prelude.{ℕ, ◌++◌, List, [], ◌∷◌, Option, Some, None, codes}
+use Rattle.std.specs.Prelude.{ℕ, ◌++◌, List, [], ◌∷◌, Option, Some, None, codes, is_some}
+use Rattle.std.specs.Prelude.{if◌then◌else◌}
 use Rattle.std.specs.Fmt.{decimal}
 use Rattle.std.specs.List.{concat, flat_map}
 use Rattle.minidump.specs.Below.Bytes.Piece.{hex}
 use Rattle.crash_streams.specs.declared.records.Access.{Access}
 use Rattle.crash_streams.specs.declared.records.Access.TheVariants.{Execute, Read, Write}
-use Rattle.crash_streams.specs.declared.records.SignalCode.{SignalCode}
 use Rattle.crash_streams.specs.declared.records.Sender.{Sender}
-use Rattle.crash.specs.Cause.{ExceptionValue}
+use Rattle.crash_threads.specs.Cause.{ExceptionValue}
 use Rattle.crash_streams.specs.Records.{signal_code_name}
 use Rattle.crash_lines.specs.Words.{hex_unless, id_words}
 
@@ -28,13 +28,10 @@ abbrev pub process_words : Option ℕ → List ℕ
 process_words (Some id) = codes ", sent by process " ++ id_words id
 process_words None = codes ", sent by an unknown process"
 
--- how it was sent, by the name of its `si_code`
-abbrev pub code_words : SignalCode → List ℕ
-code_words code = concat (codes ", " ∷ signal_code_name code ∷ [])
-
--- the process, its user, and how it was sent
+-- the process, its user, and how it was sent, by the name of its `si_code`
 abbrev pub sender_words : Option Sender → List ℕ
-sender_words (Some s) = process_words s.process ++ (user_words s.user ++ code_words s.code)
+sender_words (Some s) = process_words s.process
+    ++ (user_words s.user ++ concat (codes ", " ∷ signal_code_name s.code ∷ []))
 sender_words None = []
 
 -- a parameter after another one
@@ -53,12 +50,8 @@ record_words e flags parameters = hex_unless 0 (codes ", flags ") (Some flags)
     ++ (hex_unless 0 (codes ", nested record at ") (Some e.nested)
     ++ (access_words e.access ++ (sender_words e.sender ++ parameters_words parameters)))
 
--- LLDB's description of an exception is written over its parameters, by a mark in its flags:
--- neither is printed as numbers then
-abbrev pub words_beside : Option (List ℕ) → ExceptionValue → List ℕ
-words_beside (Some _) e = record_words e 0 []
-words_beside None e = record_words e e.flags e.parameters
-
--- all of it
+-- all of it. LLDB's description of an exception is written over its parameters, by a mark in its
+-- flags: neither is printed as numbers then
 abbrev pub record_text : ExceptionValue → List ℕ
-record_text e = words_beside e.description e
+record_text e = if is_some e.description then record_words e 0 []
+    else record_words e e.flags e.parameters

@@ -1,19 +1,20 @@
 -- The lines of the registers of a crash.
 use Rattle.std.specs.Prelude.{ℕ, ◌++◌, List, [], ◌∷◌, map, min, Option, Some, None, codes}
+use Rattle.std.specs.Prelude.{if◌then◌else◌, is_some}
 use Rattle.std.specs.Fmt.{decimal}
 use Rattle.std.specs.List.{concat, flat_map}
 use Rattle.std.specs.Option.{option_and_then}
 use Rattle.minidump.specs.Below.Bytes.Piece.{left}
 use Rattle.minidump.specs.Below.Contexts.Register.{register_text}
-use Rattle.crash.specs.declared.contexts.ContextOrigin.{ContextOrigin}
-use Rattle.crash.specs.declared.contexts.ContextOrigin.TheVariants.{OfException, OfThread}
-use Rattle.crash.specs.declared.contexts.ContextProblem.{ContextProblem}
-use Rattle.crash.specs.declared.contexts.ContextProblem.TheVariants.{NotAccepted}
-use Rattle.crash.specs.declared.contexts.ShortContext.{ShortContext}
-use Rattle.crash.specs.Cause.{ExceptionValue}
-use Rattle.crash.specs.Contexts.{ContextValue}
+use Rattle.crash_threads.specs.declared.contexts.ContextOrigin.{ContextOrigin}
+use Rattle.crash_threads.specs.declared.contexts.ContextOrigin.TheVariants.{OfException, OfThread}
+use Rattle.crash_threads.specs.declared.contexts.ContextProblem.{ContextProblem}
+use Rattle.crash_threads.specs.declared.contexts.ContextProblem.TheVariants.{NotAccepted}
+use Rattle.crash_threads.specs.declared.contexts.ShortContext.{ShortContext}
+use Rattle.crash_threads.specs.Cause.{ExceptionValue}
+use Rattle.crash_threads.specs.Contexts.{ContextValue}
 use Rattle.crash.specs.Crash.{CrashValue}
-use Rattle.crash.specs.Threads.{crashed_thread}
+use Rattle.crash_threads.specs.Threads.{crashed_thread}
 use Rattle.crash_lines.specs.Lines.{table}
 use Rattle.crash_lines.specs.Words.{count_if}
 
@@ -65,13 +66,8 @@ known_lines None = codes "no registers that can be read" ∷ []
 abbrev pub crashed_context : CrashValue → Option ContextValue
 crashed_context c = option_and_then (λ t. t.1.context) (crashed_thread c.threads)
 
--- lines that need the system
-abbrev if_system : {S : Type 0} → Option S → List (List ℕ) → List (List ℕ)
-if_system (Some _) lines = lines
-if_system None lines = []
-
 -- why the exception's context isn't used, and the registers: nothing without the system, which says
 -- how to read a context
 abbrev pub registers_lines : CrashValue → ExceptionValue → List (List ℕ)
-registers_lines c e = if_system c.process.system
-    (unused_lines e.context_problem ++ known_lines (crashed_context c))
+registers_lines c e = if is_some c.process.system
+    then unused_lines e.context_problem ++ known_lines (crashed_context c) else []

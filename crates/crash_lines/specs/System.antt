@@ -11,8 +11,8 @@ use Rattle.minidump.specs.Below.System.Cpu.{cpu_name}
 use Rattle.minidump.specs.Below.System.Dates.{date_text_of}
 use Rattle.minidump.specs.Below.System.Os.{os_name}
 use Rattle.crash.specs.Crash.{CrashValue}
-use Rattle.crash_streams.specs.Process.{ProcessFacts, SystemValue}
-use Rattle.crash_streams.specs.Release.{ReleaseValue}
+use Rattle.crash_process.specs.Process.{ProcessFacts, SystemValue}
+use Rattle.crash_process.specs.Release.{ReleaseValue}
 use Rattle.crash_lines.specs.Lines.{if_ok, if_some, table}
 use Rattle.crash_lines.specs.Words.{decimal_if, id_if, missing_lines, or_empty, text_after, text_if}
 

@@ -3,22 +3,22 @@ use Rattle.std.specs.Prelude.{ℕ, Bool, List, [], ◌∷◌, Option, Some, None
 use Rattle.std.specs.Prelude.{if◌then◌else◌, ◌++◌, ◌==◌, bytes_eq, slice_get, unwrap_or}
 use Rattle.std.specs.Fmt.{decimal}
 use Rattle.std.specs.List.{concat}
+use Rattle.std.specs.Option.{option_map_or}
 use Rattle.std.specs.Str.Lossy.{utf8_lossy}
 use Rattle.minidump.specs.declared.Error.{Error}
-use Rattle.minidump.specs.declared.format.MINIDUMP_STREAM_TYPE.{MINIDUMP_STREAM_TYPE}
 use Rattle.minidump.specs.Below.Bytes.Piece.{hex}
 use Rattle.minidump.specs.Below.Format.Error.{name_of_error}
 use Rattle.minidump.specs.Below.Format.StreamType.{stream_type_of, type_name}
-use Rattle.crash_streams.specs.Missing.{is_missing}
-use Rattle.crash_streams.specs.Modules.{LoadedValue}
+use Rattle.crash_process.specs.Missing.{is_missing}
+use Rattle.crash_process.specs.Modules.{LoadedValue}
 
 -- a text, or an empty one where there is none
 abbrev pub or_empty : Option (List ℕ) → List ℕ
 or_empty text = unwrap_or text []
 
--- words where something is so, and else none
-abbrev pub words_if : Bool → List ℕ → List ℕ
-words_if is_so words = if is_so then words else []
+-- words where something is so, and else others
+abbrev pub words_or : Bool → List ℕ → List ℕ → List ℕ
+words_or is_so words others = if is_so then words else others
 
 -- ---- the words that a part of a row writes
 
@@ -40,11 +40,6 @@ hex_if words None = []
 abbrev pub hex_unless : ℕ → List ℕ → Option ℕ → List ℕ
 hex_unless known words (Some n) = if n == known then [] else concat (words ∷ hex n ∷ [])
 hex_unless known words None = []
-
--- a number in hexadecimal, or words where there is none
-abbrev pub hex_or : Option ℕ → List ℕ → List ℕ
-hex_or (Some n) words = hex n
-hex_or None words = words
 
 -- the id of a process or a thread, in decimal and in hexadecimal
 abbrev pub id_words : ℕ → List ℕ
@@ -104,14 +99,10 @@ missing_lines words (Err e) = if_missing words e
 
 -- ---- the words for a stream, a module and a source line
 
--- the name of a type of stream, or `stream` and its number where it has none
-abbrev pub name_of_type : ℕ → Option MINIDUMP_STREAM_TYPE → List ℕ
-name_of_type number (Some known_type) = type_name known_type
-name_of_type number None = concat (codes "stream " ∷ hex number ∷ [])
-
--- the words for the stream of a type
+-- the words for the stream of a type: its name, or `stream` and its number where it has none
 abbrev pub stream_text : ℕ → List ℕ
-stream_text number = name_of_type number (stream_type_of number)
+stream_text number = option_map_or type_name (stream_type_of number)
+    (concat (codes "stream " ∷ hex number ∷ []))
 
 -- the words for the name of a file and an identifier, where there are both
 abbrev pub key_text : List ℕ → Option (List ℕ) → Option (List ℕ) → List ℕ

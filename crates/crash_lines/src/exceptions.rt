@@ -1,9 +1,8 @@
 ghost use Rattle.std.specs.Prelude.{◌≡◌, [], ◌∷◌, map};
 ghost use Rattle.minidump.specs.Below.Contexts.Context.{map_ok};
-ghost use Rattle.crash.specs.Cause.{exception_of};
+ghost use Rattle.crash_threads.specs.Cause.{exception_of};
 ghost use Rattle.crash.specs.Crash.{crash_of};
 ghost use Rattle.crash_lines.specs.Exceptions.{cause_lines, context_words, counted_lines, crash_lines};
-ghost use Rattle.crash_lines.specs.Exceptions.{crashed_row};
 ghost use Rattle.crash_lines.specs.Exceptions.{exception_line, none_lines, several_lines, several_row};
 ghost use Rattle.crash_lines.specs.Lines.{Adds};
 
@@ -34,25 +33,18 @@ pub fn push_none(out: &mut String, exceptions: &[Result<CrashException, Error>])
 }
 
 // Appends the lines of the crash by the exception that counts.
+#[tactic(auto, unfolding(crate::specs::Exceptions::counted_lines))]
 fn push_counted(out: &mut String, crash: &Crash<'_>, exception: &CrashException) -> Added
     ensures { Adds out.old out.new
         (counted_lines (crash_of crash.now) (exception_of exception.now)) result }
 {
-    push_crashed_row(out, exception.thread)?;
+    push_row(out, &[Id("crashed thread ", Some(exception.thread))])?;
     if let Some(facts) = &crash.cause.address {
         push_address_line(out, crash, "", "address", "", facts)?;
     }
     push_cause(out, exception)?;
     push_registers(out, crash, exception)?;
     push_point(out, crash)
-}
-
-// Appends the line of the thread that crashed.
-#[tactic(auto, unfolding(crate::specs::Exceptions::crashed_row))]
-fn push_crashed_row(out: &mut String, thread: u32) -> Added
-    ensures { Adds out.old out.new (crashed_row thread ∷ []) result }
-{
-    push_row(out, &[Id("crashed thread ", Some(thread))])
 }
 
 // Appends the reason of an exception, its code with where it happened and what else its record says,

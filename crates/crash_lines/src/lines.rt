@@ -42,19 +42,11 @@ pub fn push_table(out: &mut String, rows: &[&[Part<'_>]]) -> Added
 {
     for row in rows {
         let text = format_parts(*out.allocator(), row)?;
-        push_text_if_any(out, text.as_str())?;
+        if !text.is_empty() {
+            push_text_line(out, text.as_str())?;
+        }
     }
     Ok(())
-}
-
-// Appends the line of a text, unless it is empty.
-fn push_text_if_any(out: &mut String, text: &str) -> Added
-    ensures { Adds out.old out.new (row_of text.now) result }
-{
-    match text.as_bytes() {
-        [] => Ok(()),
-        _ => push_text_line(out, text),
-    }
 }
 
 /// Appends the line of a text, its control characters as escapes. If an allocation fails, what there

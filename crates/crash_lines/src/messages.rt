@@ -10,9 +10,8 @@ ghost use Rattle.minidump.specs.Promise.{mac_crash_info_stream, soft_errors_stre
 ghost use Rattle.crash_streams.specs.Contents.{message_streams_of};
 ghost use Rattle.crash_lines.specs.Lines.{Adds, if_ok};
 ghost use Rattle.crash_lines.specs.Messages.{annotation_row, assertion_line, crashpad_lines};
-ghost use Rattle.crash_lines.specs.Messages.{has_annotations, kind_words, messages_lines};
-ghost use Rattle.crash_lines.specs.Messages.{module_lines, module_row, object_row, record_lines};
-ghost use Rattle.crash_lines.specs.Messages.{report_line, unnamed_row};
+ghost use Rattle.crash_lines.specs.Messages.{kind_words, messages_lines, module_lines, module_row};
+ghost use Rattle.crash_lines.specs.Messages.{object_row, record_lines, report_line, unnamed_row};
 
 use crate::lines::{Added, push_row, push_table};
 use crate::parts::Part::{Decimal, Guid, HexIf, Said, Units, Words};
@@ -97,7 +96,10 @@ fn push_report(out: &mut String, raw: &MINIDUMP_CRASHPAD_INFO) -> Added
 fn push_module(out: &mut String, module: &MinidumpModuleCrashpadInfo) -> Added
     ensures { Adds out.old out.new (module_lines (module_of module.now)) result }
 {
-    if has_annotations(module) {
+    let has_annotations = module.list_annotations.len() > 0
+        || module.simple_annotations.len() > 0
+        || module.annotation_objects.len() > 0;
+    if has_annotations {
         push_module_row(out, module.module_index)?;
         push_unnamed(out, module.list_annotations.as_slice())?;
         push_texts(out, &module.simple_annotations)?;
@@ -105,15 +107,6 @@ fn push_module(out: &mut String, module: &MinidumpModuleCrashpadInfo) -> Added
     } else {
         Ok(())
     }
-}
-
-// Tells whether a module has annotations.
-fn has_annotations(module: &MinidumpModuleCrashpadInfo) -> bool
-    ensures { result ≡ has_annotations (module_of module.now) }
-{
-    module.list_annotations.len() > 0
-        || module.simple_annotations.len() > 0
-        || module.annotation_objects.len() > 0
 }
 
 // Appends the line before the annotations of a module, by its index.

@@ -1,24 +1,18 @@
 //! The parts of a row, which write themselves.
 ghost use Rattle.std.specs.Prelude.{◌≡◌, ◌++◌, [], ◌∷◌, IfOk, OnOk, Some, map, string_bytes};
 ghost use Rattle.std.specs.List.{concat, flat_map};
-ghost use Rattle.std.specs.Option.{option_copied, option_map};
 ghost use Rattle.minidump_bytes.specs.LinuxOsStr.{text_of};
 ghost use Rattle.minidump.specs.Below.Bytes.Piece.{piece_text};
-ghost use Rattle.minidump.specs.Below.Format.Guid.{guid_text};
-ghost use Rattle.minidump.specs.Below.Records.Assertion.{text_or_empty};
-ghost use Rattle.minidump.specs.Below.System.Cpu.{cpu_name};
-ghost use Rattle.crash.specs.Cause.{exception_of};
-ghost use Rattle.crash_streams.specs.Modules.{loaded_of};
-ghost use Rattle.crash_lines.specs.Addresses.{memory_words, right_letter};
+ghost use Rattle.crash_threads.specs.Cause.{exception_of};
+ghost use Rattle.crash_process.specs.Modules.{loaded_of};
+ghost use Rattle.crash_lines.specs.Addresses.{memory_words};
 ghost use Rattle.crash_lines.specs.Parts.{part_text};
 ghost use Rattle.crash_lines.specs.Point.{code_at, flag_words, names_after};
 ghost use Rattle.crash_lines.specs.Records.{access_words, parameters_words, process_words, record_text};
 ghost use Rattle.crash_lines.specs.Records.{sender_words};
-ghost use Rattle.crash_lines.specs.Registers.{register_words, short_if};
-ghost use Rattle.crash_lines.specs.System.{system_name};
-ghost use Rattle.crash_lines.specs.Words.{hex_unless, id_if, key_text, line_text, lossy_if};
-ghost use Rattle.crash_lines.specs.Words.{or_empty, place_text};
-ghost use Rattle.crash_lines.specs.Words.{stream_text, text_after, text_if, version_text, words_if};
+ghost use Rattle.crash_lines.specs.Registers.{register_words};
+ghost use Rattle.crash_lines.specs.Words.{hex_unless, id_if, lossy_if, place_text};
+ghost use Rattle.crash_lines.specs.Words.{text_after, words_or};
 
 use crate::lines::Added;
 use crash::{
@@ -53,8 +47,6 @@ pub enum Part<'a> {
     HexIf(&'a str, Option<u64>),
     /// The same, unless it is this one.
     HexUnless(u64, &'a str, Option<u64>),
-    /// A number in hexadecimal, or words if there is none.
-    HexOr(Option<u64>, &'a str),
     /// The id of a process or a thread after words, in decimal and in hexadecimal, if it is known.
     Id(&'a str, Option<u32>),
     /// A text between words, if there is one.
@@ -109,36 +101,50 @@ impl Part<'_> {
     {
         match *self {
             Part::Words(words) => out.push_str(words),
-            Part::If(is_so, words) => out.push_str(words_if(is_so, words)),
-            Part::Decimal(n) => push_number(out, Piece::Decimal(n)),
+            Part::If(is_so, words) => out.push_str(words_or(is_so, words, "")),
+            Part::Decimal(n) => push_pieces(out, &[Decimal(n)]),
             Part::DecimalIf(before, Some(n), after) =>
-                push_between(out, before, Piece::Decimal(n), after),
+                push_between(out, before, Decimal(n), after),
             Part::Count(_, 0, _) => Ok(()),
-            Part::Count(before, n, after) =>
-                push_between(out, before, Piece::Decimal(n as u64), after),
-            Part::Hex(n) => push_number(out, Piece::Hex(n)),
-            Part::HexIf(words, Some(n)) => push_between(out, words, Piece::Hex(n), ""),
+            Part::Count(before, n, after) => push_between(out, before, Decimal(n as u64), after),
+            Part::Hex(n) => push_pieces(out, &[Hex(n)]),
+            Part::HexIf(words, Some(n)) => push_between(out, words, Hex(n), ""),
             Part::HexUnless(known, words, n) => push_unless(out, known, words, n),
-            Part::HexOr(Some(n), _) => push_number(out, Piece::Hex(n)),
-            Part::HexOr(None, words) => out.push_str(words),
             Part::Id(words, Some(id)) => push_id(out, words, id),
-            Part::Text(before, text, after) => push_text(out, before, text, after),
-            Part::TextAfter(words, text) => push_after(out, words, or_empty(text)),
-            Part::Said(words, Some(text)) => push_between(out, words, Piece::Words(text), ""),
-            Part::Units(words, units) => push_units(out, words, units),
-            Part::Lossy(words, text) => push_lossy(out, words, text),
-            Part::Guid(guid) => push_guid(out, guid),
-            Part::Os(os) => push_os(out, os),
-            Part::Cpu(cpu) => push_cpu(out, cpu),
-            Part::Stream(number) => push_stream(out, number),
-            Part::Failed(Some(error)) => push_between(out, ": ", Piece::Words(error.name()), ""),
-            Part::Version(version) => push_version(out, version),
-            Part::Key(words, file, id) => push_key(out, words, file, id),
+            Part::Text(before, Some(text), after) =>
+                push_between(out, before, Words(text.as_str()), after),
+            Part::TextAfter(words, Some(text)) => push_after(out, words, text.as_str()),
+            Part::Said(words, Some(text)) => push_between(out, words, Words(text), ""),
+            Part::Units(words, units) => match text_before_nul(*out.allocator(), units)? {
+                Some(text) => push_after(out, words, text.as_str()),
+                None => Ok(()),
+            },
+            Part::Lossy(words, Some(text)) => push_lossy(out, words, text),
+            Part::Guid(guid) => write!(out, "{guid}"),
+            Part::Os(Os::Unknown(n)) => push_pieces(out, &[Words("unknown "), Hex(n as u64)]),
+            Part::Os(os) => write!(out, "{os}"),
+            Part::Cpu(cpu) => write!(out, "{cpu}"),
+            Part::Stream(number) => match MINIDUMP_STREAM_TYPE::from_u32(number) {
+                Some(known_type) => out.push_str(known_type.name()),
+                None => push_pieces(out, &[Words("stream "), Hex(number as u64)]),
+            },
+            Part::Failed(Some(error)) => push_between(out, ": ", Words(error.name()), ""),
+            Part::Version(Some(version)) if version.as_str() != "0.0.0.0" =>
+                push_between(out, ", version ", Words(version.as_str()), ""),
+            Part::Key(words, Some(file), Some(id)) => push_pieces(out, &[
+                Words(words), Words(file.as_str()), Words("/"), Words(id.as_str()),
+            ]),
             Part::Place(modules, nowhere, place) => push_place(out, modules, nowhere, place),
             Part::Memory(memory) => push_memory(out, memory),
             Part::Record(exception) => push_record(out, exception),
-            Part::Line(file, line) => push_source(out, file, line),
-            Part::Short(words, short) => push_short(out, words, short),
+            Part::Line(Some(file), line) => {
+                push_lossy(out, " at ", file)?;
+                push_between(out, ":", Decimal(line as u64), "")
+            }
+            Part::Short(words, Some(short)) => push_pieces(out, &[
+                Words(words), Words("context of "), Decimal(short.size as u64), Words(" of "),
+                Decimal(short.whole as u64), Words(" bytes"),
+            ]),
             Part::Flags(flags) => push_flags(out, flags),
             Part::Names(words, names) => push_names(out, words, names),
             Part::Registers(size, registers) => push_registers(out, size, registers),
@@ -146,8 +152,15 @@ impl Part<'_> {
             Part::DecimalIf(_, None, _)
             | Part::HexIf(_, None)
             | Part::Id(_, None)
+            | Part::Text(_, None, _)
+            | Part::TextAfter(_, None)
             | Part::Said(_, None)
-            | Part::Failed(None) => Ok(()),
+            | Part::Lossy(_, None)
+            | Part::Failed(None)
+            | Part::Version(_)
+            | Part::Key(..)
+            | Part::Line(None, _)
+            | Part::Short(_, None) => Ok(()),
         }
     }
 }
@@ -165,14 +178,6 @@ pub(crate) fn format_parts(alloc: Global, parts: &[Part<'_>]) -> Result<String, 
 
 // ---- numbers
 
-// Appends a number.
-fn push_number(out: &mut String, number: Piece<'_>) -> Added
-    ensures { OnOk result
-        (string_bytes out.new ≡ string_bytes out.old ++ piece_text number.entry) }
-{
-    push_pieces(out, &[number])
-}
-
 // Appends a number or a text between words.
 fn push_between(out: &mut String, before: &str, piece: Piece<'_>, after: &str) -> Added
     ensures { OnOk result (string_bytes out.new ≡ string_bytes out.old
@@ -187,7 +192,7 @@ fn push_unless(out: &mut String, known: u64, words: &str, n: Option<u64>) -> Add
         (string_bytes out.new ≡ string_bytes out.old ++ hex_unless known words.now n) }
 {
     match n {
-        Some(n) if n != known => push_between(out, words, Piece::Hex(n), ""),
+        Some(n) if n != known => push_between(out, words, Hex(n), ""),
         _ => Ok(()),
     }
 }
@@ -203,43 +208,7 @@ fn push_id(out: &mut String, words: &str, id: u32) -> Added
     ])
 }
 
-// Appends how much there is of a context after words, if it is cut.
-#[rattlefmt::skip]
-fn push_short(out: &mut String, words: &str, short: Option<ShortContext>) -> Added
-    ensures { OnOk result
-        (string_bytes out.new ≡ string_bytes out.old ++ short_if words.now short) }
-{
-    match short {
-        Some(short) => push_pieces(out, &[
-            Words(words), Words("context of "), Decimal(short.size as u64), Words(" of "),
-            Decimal(short.whole as u64), Words(" bytes"),
-        ]),
-        None => Ok(()),
-    }
-}
-
 // ---- texts
-
-// Returns a text, or an empty one if there is none.
-fn or_empty(text: &Option<String>) -> &str
-    ensures { result.now ≡ or_empty (option_map string_bytes text.now) }
-{
-    match text {
-        Some(text) => text.as_str(),
-        None => "",
-    }
-}
-
-// Appends a text between words, if there is one.
-fn push_text(out: &mut String, before: &str, text: &Option<String>, after: &str) -> Added
-    ensures { OnOk result (string_bytes out.new ≡ string_bytes out.old
-        ++ text_if before.now (option_map string_bytes text.now) after.now) }
-{
-    match text {
-        Some(text) => push_between(out, before, Words(text.as_str()), after),
-        None => Ok(()),
-    }
-}
 
 // Appends a text after words, unless it is empty.
 fn push_after(out: &mut String, words: &str, text: &str) -> Added
@@ -252,103 +221,16 @@ fn push_after(out: &mut String, words: &str, text: &str) -> Added
     }
 }
 
-// Appends the text of UTF-16 up to its first 0 after words, unless it is empty or malformed.
-fn push_units(out: &mut String, words: &str, units: &[u16]) -> Added
+// Appends a text of Linux after words.
+fn push_lossy(out: &mut String, words: &str, text: LinuxOsStr<'_>) -> Added
     ensures { OnOk result (string_bytes out.new
-        ≡ string_bytes out.old ++ text_after words.now (text_or_empty units.now)) }
+        ≡ string_bytes out.old ++ lossy_if words.now (Some (text_of text.entry))) }
 {
-    match text_before_nul(*out.allocator(), units)? {
-        Some(text) => push_after(out, words, text.as_str()),
-        None => Ok(()),
-    }
-}
-
-// Appends a text of Linux after words, if there is one.
-fn push_lossy(out: &mut String, words: &str, text: Option<LinuxOsStr<'_>>) -> Added
-    ensures { OnOk result (string_bytes out.new
-        ≡ string_bytes out.old ++ lossy_if words.now (option_map text_of text.entry)) }
-{
-    match text {
-        Some(text) => {
-            let text = text.to_string_lossy(*out.allocator())?;
-            push_between(out, words, Words(text.as_str()), "")
-        }
-        None => Ok(()),
-    }
-}
-
-// Appends an identifier.
-fn push_guid(out: &mut String, guid: &GUID) -> Added
-    ensures { OnOk result (string_bytes out.new ≡ string_bytes out.old ++ guid_text guid.now) }
-{
-    let text = format!(in *out.allocator(); "{guid}")?;
-    out.push_str(text.as_str())
-}
-
-// Appends the name of an operating system.
-fn push_os(out: &mut String, os: Os) -> Added
-    ensures { OnOk result (string_bytes out.new ≡ string_bytes out.old ++ system_name os) }
-{
-    match os {
-        Os::Unknown(number) => push_pieces(out, &[Words("unknown "), Hex(number as u64)]),
-        _ => {
-            let name = os.to_string(*out.allocator())?;
-            out.push_str(name.as_str())
-        }
-    }
-}
-
-// Appends the name of a processor.
-fn push_cpu(out: &mut String, cpu: Cpu) -> Added
-    ensures { OnOk result (string_bytes out.new ≡ string_bytes out.old ++ cpu_name cpu) }
-{
-    let name = cpu.to_string(*out.allocator())?;
-    out.push_str(name.as_str())
-}
-
-// Appends the name of the stream of a type, or its number if it has none.
-fn push_stream(out: &mut String, number: u32) -> Added
-    ensures { OnOk result (string_bytes out.new ≡ string_bytes out.old ++ stream_text number) }
-{
-    match MINIDUMP_STREAM_TYPE::from_u32(number) {
-        Some(known_type) => out.push_str(known_type.name()),
-        None => push_pieces(out, &[Words("stream "), Hex(number as u64)]),
-    }
+    let text = text.to_string_lossy(*out.allocator())?;
+    push_between(out, words, Words(text.as_str()), "")
 }
 
 // ---- modules and memory
-
-// Appends a version, unless it says nothing.
-fn push_version(out: &mut String, version: &Option<String>) -> Added
-    ensures { OnOk result (string_bytes out.new
-        ≡ string_bytes out.old ++ version_text (option_map string_bytes version.now)) }
-{
-    match version {
-        Some(version) if version.as_str() != "0.0.0.0" => {
-            push_pieces(out, &[Words(", version "), Words(version.as_str())])
-        }
-        _ => Ok(()),
-    }
-}
-
-// Appends the name of a file and an identifier after words, if there are both.
-#[rattlefmt::skip]
-fn push_key<'x>(
-    out: &mut String,
-    words: &'x str,
-    file: Option<&'x String>,
-    id: &'x Option<String>,
-) -> Added
-    ensures { OnOk result (string_bytes out.new ≡ string_bytes out.old ++ key_text words.now
-        (option_map string_bytes (option_copied file.entry)) (option_map string_bytes id.now)) }
-{
-    match (file, id) {
-        (Some(file), Some(id)) => push_pieces(out, &[
-            Words(words), Words(file.as_str()), Words("/"), Words(id.as_str()),
-        ]),
-        _ => Ok(()),
-    }
-}
 
 // Appends the module of an index with an offset in it, or words if there is none.
 #[rattlefmt::skip]
@@ -380,45 +262,21 @@ fn push_memory(out: &mut String, memory: Option<AddressMemory>) -> Added
             RegionState::Free => out.push_str(", memory free"),
             RegionState::Reserved => out.push_str(", memory reserved"),
             RegionState::Committed => push_pieces(out, &[
-                Words(", memory "), Words(right_letter("r", memory.is_readable)),
-                Words(right_letter("w", memory.is_writable)),
-                Words(right_letter("x", memory.is_executable)),
-                Words(words_if(memory.is_guarded, " guarded")),
+                Words(", memory "), Words(words_or(memory.is_readable, "r", "-")),
+                Words(words_or(memory.is_writable, "w", "-")),
+                Words(words_or(memory.is_executable, "x", "-")),
+                Words(words_or(memory.is_guarded, " guarded", "")),
             ]),
         },
         None => Ok(()),
     }
 }
 
-// Returns the letter of a right, or a dash.
-fn right_letter(letter: &'static str, is_there: bool) -> &'static str
-    ensures { result.now ≡ right_letter letter.now is_there }
+// Returns words if something is so, or else the others.
+fn words_or<'x>(is_so: bool, words: &'x str, others: &'x str) -> &'x str
+    ensures { result.now ≡ words_or is_so words.now others.now }
 {
-    if is_there { letter } else { "-" }
-}
-
-// Returns words if something is so, or else none.
-fn words_if(is_so: bool, words: &str) -> &str
-    ensures { result.now ≡ words_if is_so words.now }
-{
-    if is_so { words } else { "" }
-}
-
-// Appends a line of a source file, if the file is known.
-#[rattlefmt::skip]
-fn push_source(out: &mut String, file: Option<LinuxOsStr<'_>>, line: u32) -> Added
-    ensures { OnOk result (string_bytes out.new
-        ≡ string_bytes out.old ++ line_text (option_map text_of file.entry) line) }
-{
-    match file {
-        Some(file) => {
-            let file = file.to_string_lossy(*out.allocator())?;
-            push_pieces(out, &[
-                Words(" at "), Words(file.as_str()), Words(":"), Decimal(line as u64),
-            ])
-        }
-        None => Ok(()),
-    }
+    if is_so { words } else { others }
 }
 
 // ---- lists

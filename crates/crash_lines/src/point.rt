@@ -3,19 +3,19 @@
 ghost use Rattle.std.specs.Prelude.{◌≡◌, ◌∷◌, [], map};
 ghost use Rattle.std.specs.List.{list_any};
 ghost use Rattle.std.specs.Option.{option_copied, option_map};
-ghost use Rattle.crash.specs.Addresses.{is_placed};
-ghost use Rattle.crash.specs.Cause.{exception_of};
-ghost use Rattle.crash.specs.Contexts.{context_of};
+ghost use Rattle.crash_threads.specs.Addresses.{is_placed};
+ghost use Rattle.crash_threads.specs.Cause.{exception_of};
+ghost use Rattle.crash_threads.specs.Contexts.{context_of};
 ghost use Rattle.crash.specs.Crash.{crash_of};
-ghost use Rattle.crash_streams.specs.Modules.{loaded_of};
-ghost use Rattle.crash.specs.Point.{point_of};
+ghost use Rattle.crash_process.specs.Modules.{loaded_of};
+ghost use Rattle.crash_threads.specs.Point.{point_of};
 ghost use Rattle.crash_lines.specs.Addresses.{address_line, thread_id, unloaded_path};
 ghost use Rattle.crash_lines.specs.Lines.{Adds};
 ghost use Rattle.crash_lines.specs.Point.{code_lines, flags_lines, instruction_lines, is_ordinary};
 ghost use Rattle.crash_lines.specs.Point.{placed_heading, placed_lines, placed_registers, point_lines};
 ghost use Rattle.crash_lines.specs.Point.{processor_lines, words_lines};
 ghost use Rattle.crash_lines.specs.Registers.{crashed_context, heading_of, heading_row, known_lines};
-ghost use Rattle.crash_lines.specs.Registers.{register_row, registers_lines, rows, unused_lines};
+ghost use Rattle.crash_lines.specs.Registers.{register_row, registers_lines, rows};
 
 use crate::lines::{Added, push_row, push_table, push_text_line};
 use crate::parts::Part::{
@@ -70,8 +70,10 @@ fn thread_id(crash: &Crash<'_>, index: Option<usize>) -> Option<u32>
 
 // ---- the registers
 
-// Appends why the context of an exception isn't used, and the registers of the thread that crashed:
-// nothing without the system.
+// Appends that the context of an exception is no context of the processor, if it isn't and has
+// bytes, and the registers of the thread that crashed: nothing without the system.
+#[rattlefmt::skip]
+#[tactic(auto, unfolding(crate::specs::Registers::unused_lines))]
 pub(crate) fn push_registers(
     out: &mut String,
     crash: &Crash<'_>,
@@ -82,25 +84,14 @@ pub(crate) fn push_registers(
 {
     match &crash.process.system {
         Some(_) => {
-            push_unused(out, exception.context_problem)?;
+            if let Some(ContextProblem::NotAccepted { size }) = exception.context_problem {
+                push_table(out, &[
+                    &[Count("the context of the exception can't be read, ", size, " bytes")],
+                ])?;
+            }
             push_known(out, crashed_context(crash))
         }
         None => Ok(()),
-    }
-}
-
-// Appends that the context of an exception is no context of the processor, if it isn't and has
-// bytes.
-#[rattlefmt::skip]
-#[tactic(auto, unfolding(crate::specs::Registers::unused_lines))]
-fn push_unused(out: &mut String, problem: Option<ContextProblem>) -> Added
-    ensures { Adds out.old out.new (unused_lines problem) result }
-{
-    match problem {
-        Some(ContextProblem::NotAccepted { size }) => push_table(out, &[
-            &[Count("the context of the exception can't be read, ", size, " bytes")],
-        ]),
-        _ => Ok(()),
     }
 }
 
@@ -261,11 +252,7 @@ fn push_instruction(out: &mut String, crash: &Crash<'_>, facts: &AddressFacts) -
 fn is_ordinary(facts: &AddressFacts) -> bool
     ensures { result ≡ is_ordinary facts.now }
 {
-    match (facts.module, facts.memory) {
-        (Some(_), Some(memory)) => memory.is_executable,
-        (Some(_), None) => true,
-        (None, _) => false,
-    }
+    facts.module.is_some() && facts.memory.map_or(true, |memory| memory.is_executable)
 }
 
 // Appends the line of the bytes at an address, if there are any.

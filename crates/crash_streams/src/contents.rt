@@ -1,15 +1,17 @@
-ghost use Rattle.std.specs.Prelude.{◌≡◌, IfOk, IsOkUnless, map};
-ghost use Rattle.std.specs.Result.{result_err};
+ghost use Rattle.std.specs.Prelude.{◌≡◌, [], IfOk, IsOkUnless, map, unwrap_or};
+ghost use Rattle.std.specs.Result.{result_err, result_ok};
 ghost use Rattle.minidump.specs.Below.Contexts.Context.{map_ok};
 ghost use Rattle.minidump.specs.Below.MemoryLists.Unified.{unified_list, unified_region};
 ghost use Rattle.minidump.specs.Below.MemoryLists.Unified.{unified_regions};
 ghost use Rattle.minidump.specs.Below.MemoryLists.UnifiedInfo.{info_list};
 ghost use Rattle.minidump.specs.Below.Modules.ModuleList.{module_list_of};
+ghost use Rattle.minidump.specs.Below.Modules.UnloadedModule.{unloaded_of};
 ghost use Rattle.minidump.specs.Below.Records.Annotations.{annotation_of};
 ghost use Rattle.minidump.specs.Below.Records.CrashpadText.{annotation_text};
 ghost use Rattle.minidump.specs.DumpValue.{dump_of};
 ghost use Rattle.minidump.specs.Promise.{linux_maps_stream, memory64_list_stream};
 ghost use Rattle.minidump.specs.Promise.{memory_info_list_stream, memory_list_stream};
+ghost use Rattle.minidump.specs.Promise.{unloaded_module_list_stream};
 ghost use Rattle.crash_streams.specs.Contents.{contents_in, contents_of, first_infos};
 ghost use Rattle.crash_streams.specs.Contents.{first_memory, message_streams_in, message_streams_of};
 ghost use Rattle.crash_streams.specs.Contents.{process_streams_in, process_streams_of, space_streams_in};
@@ -23,8 +25,8 @@ use minidump::{
     MinidumpLinuxProcStatus, MinidumpMacBootargs, MinidumpMacCrashInfo, MinidumpMemory64List,
     MinidumpMemoryInfoList, MinidumpMemoryList, MinidumpMiscInfo, MinidumpModuleList,
     MinidumpSoftErrors, MinidumpStream, MinidumpSystemInfo, MinidumpThreadInfoList,
-    MinidumpThreadList, MinidumpThreadNames, MinidumpUnloadedModuleList, StabilityReport,
-    UnifiedMemory, UnifiedMemoryInfoList, UnifiedMemoryList,
+    MinidumpThreadList, MinidumpThreadNames, MinidumpUnloadedModule, MinidumpUnloadedModuleList,
+    StabilityReport, UnifiedMemory, UnifiedMemoryInfoList, UnifiedMemoryList,
 };
 use std::alloc::{AllocError, Global};
 
@@ -301,8 +303,8 @@ fn info_streams<'a>(
     Ok((first_infos(alloc, infos, maps), errors, map_count))
 }
 
-// Returns the error for which a stream can't be read.
-pub(crate) fn error_of<'a, S: MinidumpStream<'a>>(found: &Result<S, Error>) -> Option<Error>
+/// Returns the error for which a stream can't be read.
+pub fn error_of<'a, S: MinidumpStream<'a>>(found: &Result<S, Error>) -> Option<Error>
     ensures { result ≡ result_err (map_ok S.spec.value found.now) }
 {
     match found {
@@ -342,5 +344,18 @@ fn first_infos<'a>(
         (Ok(list), _) => UnifiedMemoryInfoList::Info(list),
         (Err(_), Ok(list)) => UnifiedMemoryInfoList::Maps(list),
         (Err(_), Err(_)) => UnifiedMemoryInfoList::empty(alloc),
+    }
+}
+
+/// Returns the entries of the list of modules that were unloaded: none if it can't be read.
+pub fn unloaded_entries(
+    list: &Result<MinidumpUnloadedModuleList, Error>,
+) -> &[MinidumpUnloadedModule]
+    ensures { map unloaded_of result.now
+        ≡ unwrap_or (result_ok (map_ok unloaded_module_list_stream.value list.now)) [] }
+{
+    match list {
+        Ok(list) => list.iter().as_slice(),
+        Err(_) => &[],
     }
 }

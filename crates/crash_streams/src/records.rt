@@ -6,7 +6,7 @@ ghost use Rattle.crash_streams.specs.Records.{access_in, description_in, is_acce
 ghost use Rattle.crash_streams.specs.Records.{lacks_address, may_be_instruction, parameters_in, sender_by};
 ghost use Rattle.crash_streams.specs.Records.{sender_in, signal_code, signal_code_name, user_at};
 
-use crate::process_texts::before_nul;
+use crate::texts::before_nul;
 use minidump::MinidumpSystemInfo;
 use minidump::format::MINIDUMP_EXCEPTION;
 use minidump::strings::LinuxOsStr;

@@ -96,19 +96,15 @@ stack_in memory thread =
 
 -- ---- the summary
 
--- the summary of an exception on a thread
-abbrev summary_by : Lists → Dump → Exception → Option Thread → Summary
-summary_by names d e thread = record {
+-- the summary of an exception, whose thread is the last one of its id
+abbrev pub summary_at : Lists → Dump → Exception → Summary
+summary_at names d e = let thread = last_with e.thread_id (threads_in d) in record {
   thread = e.thread_id;
   address = address_in (dump_system d) e;
   reason = reason_in names (dump_system d) e;
   loaded = module_at (modules_in d) (crash_pointer (dump_system d) e thread);
   stack = stack_in (memory_in d) thread;
 }
-
--- the summary of an exception, whose thread is the last one of its id
-abbrev pub summary_at : Lists → Dump → Exception → Summary
-summary_at names d e = summary_by names d e (last_with e.thread_id (threads_in d))
 
 -- the summary of a file, or the error of the dump, or that of the exception's stream
 abbrev pub summary_in : List ℕ → Lists → Result Summary Error

@@ -128,12 +128,10 @@ fn threads_of<'a>(alloc: Global, dump: &Minidump<'a>) -> Result<MinidumpThreadLi
         ≡ threads_in (dump_of dump.now)) }
     ensures memory { IsOkUnless result Error.OutOfMemory }
 {
-    match dump.find_stream(alloc)? {
-        Some(threads) => Ok(threads),
-        None => Ok(MinidumpThreadList {
-            threads: Vec::new(alloc),
-        }),
-    }
+    let threads = dump.find_stream(alloc)?;
+    Ok(threads.unwrap_or(MinidumpThreadList {
+        threads: Vec::new(alloc),
+    }))
 }
 
 // Returns the modules, an empty list if they are missing or malformed.
@@ -142,10 +140,8 @@ fn modules_of(alloc: Global, dump: &Minidump<'_>) -> Result<MinidumpModuleList, 
         ≡ modules_in (dump_of dump.now)) }
     ensures memory { IsOkUnless result Error.OutOfMemory }
 {
-    match dump.find_stream(alloc)? {
-        Some(modules) => Ok(modules),
-        None => Ok(MinidumpModuleList::new(alloc)),
-    }
+    let modules = dump.find_stream(alloc)?;
+    Ok(modules.unwrap_or(MinidumpModuleList::new(alloc)))
 }
 
 // Returns the memory, an empty list if both lists are missing or malformed.
@@ -153,10 +149,8 @@ fn memory_of<'a>(alloc: Global, dump: &Minidump<'a>) -> Result<UnifiedMemoryList
     ensures value { IfOk result (λ memory. unified_list memory ≡ memory_in (dump_of dump.now)) }
     ensures memory { IsOkUnless result Error.OutOfMemory }
 {
-    match dump.get_memory(alloc)? {
-        Some(memory) => Ok(memory),
-        None => Ok(UnifiedMemoryList::new(alloc)),
-    }
+    let memory = dump.get_memory(alloc)?;
+    Ok(memory.unwrap_or(UnifiedMemoryList::new(alloc)))
 }
 
 // Returns the instruction pointer of a crash: that of the exception's context, if it is accepted, else
@@ -207,10 +201,7 @@ fn reason_of(
     if reason.write_to(alloc, names, &mut out).is_err() {
         return Err(Error::OutOfMemory);
     }
-    match String::from_utf8(out.into_device()) {
-        Ok(text) => Ok(Some(text)),
-        Err(_) => unreachable!(),
-    }
+    Ok(Some(String::from_utf8(out.into_device()).unwrap()))
 }
 
 // Returns the module that contains an address.

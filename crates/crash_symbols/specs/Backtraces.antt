@@ -9,7 +9,7 @@ use Rattle.stack_walk.specs.Frames.{StackValue}
 use Rattle.symbol_walk.specs.declared.walk.SymbolWalkEnd.{SymbolWalkEnd}
 use Rattle.symbol_walk.specs.Walk.{SymbolWalkValue, plain_frames, symbol_walk_in}
 use Rattle.crash.specs.Crash.{CrashValue, walked_in}
-use Rattle.crash.specs.Frames.{frame_in}
+use Rattle.crash_threads.specs.Frames.{frame_in}
 use Rattle.crash_symbols.specs.declared.backtraces.Backtrace.{Backtrace}
 use Rattle.crash_symbols.specs.declared.backtraces.Backtraces.{Backtraces}
 use Rattle.crash_symbols.specs.NameParts.{named_of}

@@ -6,8 +6,8 @@ use Rattle.std.specs.List.{list_any}
 use Rattle.std.specs.Option.{option_and_then, option_map, option_map_or}
 use Rattle.std.specs.Str.{bytes_eq}
 use Rattle.breakpad_symbols.specs.SymbolFile.{SymbolsValue}
-use Rattle.crash_streams.specs.FileName.{file_name}
-use Rattle.crash_streams.specs.Modules.{LoadedValue}
+use Rattle.crash_process.specs.FileName.{file_name}
+use Rattle.crash_process.specs.Modules.{LoadedValue}
 
 -- two texts are the same but for the case of letters
 abbrev pub same_letters : List ℕ → List ℕ → Bool

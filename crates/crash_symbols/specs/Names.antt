@@ -9,7 +9,7 @@ use Rattle.breakpad_symbols.specs.Function.{FunctionValue, line_in}
 use Rattle.breakpad_symbols.specs.Inline.{inlines_in}
 use Rattle.breakpad_symbols.specs.Numbered.{first_numbered}
 use Rattle.breakpad_symbols.specs.SymbolFile.{SymbolsValue, file_name, origin_name, public_at}
-use Rattle.crash.specs.declared.frames.CrashFrame.{CrashFrame}
+use Rattle.crash_threads.specs.declared.frames.CrashFrame.{CrashFrame}
 use Rattle.symbol_walk.specs.Symbols.{range_of_lines, symbols_of_module}
 
 -- a function by name, and the offset of an address from its first

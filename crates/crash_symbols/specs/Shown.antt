@@ -2,8 +2,8 @@
 use Rattle.std.specs.Prelude.{ℕ, ◌++◌, List, map, Option, Some, None, slice_get, take}
 use Rattle.std.specs.Option.{option_and_then, option_map}
 use Rattle.symbol_walk.specs.declared.walk.SymbolWalkEnd.TheVariants.{Walk}
-use Rattle.crash.specs.Frames.{CrashWalkValue}
-use Rattle.crash.specs.Threads.{ThreadValue}
+use Rattle.crash_threads.specs.Frames.{CrashWalkValue}
+use Rattle.crash_threads.specs.Threads.{ThreadValue}
 use Rattle.crash_symbols.specs.declared.backtraces.Symbolized.{Symbolized}
 use Rattle.crash_symbols.specs.declared.shown.ShownFrame.{ShownFrame}
 use Rattle.crash_symbols.specs.declared.shown.ShownWalk.{ShownWalk}

@@ -2,7 +2,7 @@ ghost use Rattle.std.specs.Prelude.{◌≡◌, IfOk, string_bytes};
 ghost use Rattle.std.specs.List.{list_any};
 ghost use Rattle.std.specs.Option.{option_map};
 ghost use Rattle.breakpad_symbols.specs.SymbolFile.{symbols_of};
-ghost use Rattle.crash_streams.specs.Modules.{loaded_of};
+ghost use Rattle.crash_process.specs.Modules.{loaded_of};
 ghost use Rattle.crash_symbols.specs.Modules.{is_of_module, is_plain_name, separates, stem};
 ghost use Rattle.crash_symbols.specs.Modules.{symbol_path};
 

@@ -1,7 +1,7 @@
 ghost use Rattle.std.specs.Prelude.{◌≡◌, IfOk, map, take};
 ghost use Rattle.std.specs.Option.{option_copied, option_map};
-ghost use Rattle.crash.specs.Frames.{crash_walk_of};
-ghost use Rattle.crash.specs.Threads.{thread_value};
+ghost use Rattle.crash_threads.specs.Frames.{crash_walk_of};
+ghost use Rattle.crash_threads.specs.Threads.{thread_value};
 ghost use Rattle.crash_symbols.specs.Backtraces.{backtrace_of};
 ghost use Rattle.crash_symbols.specs.NameParts.{named_of};
 ghost use Rattle.crash_symbols.specs.Names.{unnamed};

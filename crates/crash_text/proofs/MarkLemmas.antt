@@ -4,10 +4,10 @@ use Rattle.std.specs.Prelude.{slice_get}
 use Rattle.std.specs.List.{flat_map}
 use Rattle.std.proofs.lemmas.List.{length-map}
 use Rattle.std.proofs.lemmas.Option.{slice_get_within}
-use Rattle.crash.specs.declared.frames.CrashFrame.{CrashFrame}
-use Rattle.crash_streams.specs.Modules.{LoadedValue, loaded_of}
+use Rattle.crash_threads.specs.declared.frames.CrashFrame.{CrashFrame}
+use Rattle.crash_process.specs.Modules.{LoadedValue, loaded_of}
 use Rattle.crash_text.specs.declared.limits.TextLimits.{TextLimits}
-use Rattle.crash_text.specs.declared.page.Page.{Page}
+use Rattle.crash_text.specs.declared.text.Page.{Page}
 use Rattle.crash_lines.specs.Lines.{line_of}
 use Rattle.crash_text.specs.Modules.{HasMarks, address_place, each_module, is_in, is_marked, is_named, listed_lines, named_modules, symbols_text}
 use Rattle.crash_text.specs.Page.{PageValue, page_of}

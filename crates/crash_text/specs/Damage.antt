@@ -1,5 +1,5 @@
 -- The lines of what is there and can't be read.
-use Rattle.std.specs.Prelude.{ℕ, ◌++◌, List, [], ◌∷◌, map, Option, Some, None, codes}
+use Rattle.std.specs.Prelude.{ℕ, ◌++◌, List, [], ◌∷◌, map, Some, codes}
 use Rattle.std.specs.Fmt.{decimal}
 use Rattle.std.specs.List.{concat}
 use Rattle.minidump.specs.Below.Bytes.Piece.{hex}
@@ -7,9 +7,9 @@ use Rattle.crash.specs.declared.damage.Damage.{Damage}
 use Rattle.crash.specs.declared.damage.Damage.TheVariants.{Entries, Exception, ExceptionContext, Modules}
 use Rattle.crash.specs.declared.damage.Damage.TheVariants.{Parameters, Records, Regions, Stack, Stream}
 use Rattle.crash.specs.declared.damage.Damage.TheVariants.{Texts, ThreadContext}
-use Rattle.crash_streams.specs.declared.unreadable_modules.ModulePart.{ModulePart}
-use Rattle.crash_streams.specs.declared.unreadable_modules.ModulePart.TheVariants.{CodeView, Name}
-use Rattle.crash_streams.specs.declared.unreadable_modules.UnreadableModule.{UnreadableModule}
+use Rattle.crash_process.specs.declared.unreadable_modules.ModulePart.{ModulePart}
+use Rattle.crash_process.specs.declared.unreadable_modules.ModulePart.TheVariants.{CodeView, Name}
+use Rattle.crash_process.specs.declared.unreadable_modules.UnreadableModule.{UnreadableModule}
 use Rattle.crash.specs.Crash.{CrashValue}
 use Rattle.crash_lines.specs.Words.{error_words, id_words, stream_text}
 

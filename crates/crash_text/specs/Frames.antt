@@ -15,8 +15,8 @@ use Rattle.minidump.specs.Below.Bytes.Piece.{hex}
 use Rattle.symbol_walk.specs.declared.walk.SymbolWalkEnd.{SymbolWalkEnd}
 use Rattle.symbol_walk.specs.declared.walk.SymbolWalkEnd.TheVariants.{Walk, NoReturnRule}
 use Rattle.symbol_walk.specs.declared.walk.SymbolWalkEnd.TheVariants.{ZeroReturnAddress}
-use Rattle.crash.specs.declared.frames.CrashFrame.{CrashFrame}
-use Rattle.crash_streams.specs.Modules.{LoadedValue}
+use Rattle.crash_threads.specs.declared.frames.CrashFrame.{CrashFrame}
+use Rattle.crash_process.specs.Modules.{LoadedValue}
 use Rattle.crash_symbols.specs.Backtraces.{BacktraceValue}
 use Rattle.crash_symbols.specs.NameParts.{source_of}
 use Rattle.crash_symbols.specs.Names.{CallValue, NamedFrameValue, SourceValue}

@@ -10,17 +10,17 @@ use Rattle.minidump.specs.Below.Modules.UnloadedModule.{UnloadedValue}
 use Rattle.minidump.specs.Below.Records.Descriptor.{handle}
 use Rattle.minidump.specs.Below.Records.Handles.{Handle}
 use Rattle.minidump.specs.Below.Records.Pairs.{pairs_of}
-use Rattle.crash_streams.specs.declared.directory.StreamEntry.{StreamEntry}
-use Rattle.crash_streams.specs.HandleKinds.{KindValue}
-use Rattle.crash_streams.specs.Linux.{LimitValue, limits_in}
-use Rattle.crash_streams.specs.Modules.{UnloadedModuleValue}
+use Rattle.crash_process.specs.declared.directory.StreamEntry.{StreamEntry}
+use Rattle.crash_process.specs.HandleKinds.{KindValue}
+use Rattle.crash_process.specs.Linux.{LimitValue, limits_in}
+use Rattle.crash_process.specs.Modules.{UnloadedModuleValue}
 use Rattle.crash_text.specs.declared.limits.TextLimits.{TextLimits}
 use Rattle.crash_lines.specs.Words.{stream_text}
 use Rattle.crash_lines.specs.Lines.{if_some}
 use Rattle.crash_text.specs.Modules.{all_modules}
 use Rattle.crash_lines.specs.Words.{key_text}
 use Rattle.crash_text.specs.Page.{PageValue}
-use Rattle.crash_lines.specs.Words.{count_row, error_words, hex_if, hex_or, lossy_if, text_if}
+use Rattle.crash_lines.specs.Words.{count_row, error_words, hex_if, lossy_if, text_if, words_or}
 
 -- the number of items, and the lines of them if they are asked for
 abbrev pub list_lines : {X : Type 0} → Bool → List ℕ → (X → List ℕ) → List X → List (List ℕ)
@@ -66,16 +66,13 @@ memory_lines limits regions errors = if is_none errors.0 || is_none errors.1
 
 -- the line of a handle: its value, the name of its type, and its own
 unfoldable pub handle_line : Handle → List ℕ
-handle_line h = concat (codes "    " ∷ hex_or (handle h.raw) (codes "no value")
+handle_line h = concat (codes "    " ∷ hex_if [] (handle h.raw)
+    ∷ words_or (is_none (handle h.raw)) (codes "no value") []
     ∷ text_if (codes " ") h.type_name [] ∷ text_if (codes " \"") h.object_name (codes "\"") ∷ [])
 
 -- the line of a kind of handles: the name of their type, and how many there are
 unfoldable pub kind_line : KindValue → List ℕ
 kind_line k = concat (codes "    " ∷ k.type_name ∷ codes " " ∷ decimal k.count ∷ [])
-
--- whether all handles are asked for
-abbrev pub all_handles : TextLimits → Bool
-all_handles limits = limits.lists || limits.handles
 
 -- the handles, where their list can be read: how many there are, each kind, and all of them if they
 -- are asked for
@@ -83,7 +80,7 @@ abbrev pub handles_lines : TextLimits → List KindValue → Result (List Handle
     → List (List ℕ)
 handles_lines limits kinds (Ok handles) = count_row (codes "handles") (length handles)
     ∷ (map kind_line kinds
-    ++ (if all_handles limits then map handle_line handles else []))
+    ++ (if limits.lists || limits.handles then map handle_line handles else []))
 handles_lines limits kinds (Err _) = []
 
 -- ---- Linux's limits of the process
@@ -114,13 +111,6 @@ environment_lines limits (Err _) = []
 
 -- ---- all of them
 
--- those of the process
-abbrev pub process_lists_lines : PageValue → List (List ℕ)
-process_lists_lines p =
-    handles_lines p.limits p.crash.process.handle_kinds p.crash.contents.process.handles
-    ++ (limits_lines p.limits p.crash.contents.process.limits
-    ++ environment_lines p.limits p.crash.contents.process.environ)
-
 -- the lists after the modules
 abbrev pub lists_lines : PageValue → List (List ℕ)
 lists_lines p = unloaded_lines p.limits p.crash.modules.unloaded p.crash.contents.space.unloaded
@@ -128,4 +118,6 @@ lists_lines p = unloaded_lines p.limits p.crash.modules.unloaded p.crash.content
     ++ (memory_lines p.limits (unified_regions p.crash.contents.space.memory)
     p.crash.contents.space.memory_errors
     ++ (if_some (λ count. count_row (codes "maps") count ∷ []) p.crash.contents.space.map_count
-    ++ process_lists_lines p)))
+    ++ (handles_lines p.limits p.crash.process.handle_kinds p.crash.contents.process.handles
+    ++ (limits_lines p.limits p.crash.contents.process.limits
+    ++ environment_lines p.limits p.crash.contents.process.environ)))))

@@ -6,9 +6,9 @@ use Rattle.std.specs.List.{concat, flat_map, list_any}
 use Rattle.std.specs.Option.{option_and_then}
 use Rattle.minidump.specs.declared.Error.{Error}
 use Rattle.minidump.specs.Below.Bytes.Piece.{hex}
-use Rattle.crash.specs.declared.addresses.AddressFacts.{AddressFacts}
-use Rattle.crash.specs.declared.frames.CrashFrame.{CrashFrame}
-use Rattle.crash_streams.specs.Modules.{LoadedValue}
+use Rattle.crash_threads.specs.declared.addresses.AddressFacts.{AddressFacts}
+use Rattle.crash_threads.specs.declared.frames.CrashFrame.{CrashFrame}
+use Rattle.crash_process.specs.Modules.{LoadedValue}
 use Rattle.crash_symbols.specs.declared.symbols.SymbolState.{SymbolState}
 use Rattle.crash_symbols.specs.declared.symbols.SymbolState.TheVariants.{Corrupt, Loaded, Missing}
 use Rattle.crash_symbols.specs.declared.symbols.SymbolState.TheVariants.{OutOfMemory, Unwanted}

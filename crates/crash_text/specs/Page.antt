@@ -4,7 +4,7 @@ use Rattle.std.specs.Option.{option_copied, option_map}
 use Rattle.crash.specs.Crash.{CrashValue, crash_of}
 use Rattle.crash_symbols.specs.Shown.{SymbolizedValue, symbolized_of}
 use Rattle.crash_text.specs.declared.limits.TextLimits.{TextLimits}
-use Rattle.crash_text.specs.declared.page.Page.{Page}
+use Rattle.crash_text.specs.declared.text.Page.{Page}
 
 -- a crash, how much of it is printed, and its symbols where they are known
 pub record PageValue : Type 0 where

@@ -14,17 +14,12 @@ use Rattle.crash_text.specs.Page.{PageValue}
 use Rattle.crash_lines.specs.System.{head_lines}
 use Rattle.crash_text.specs.Threads.{crashed_lines, each_other}
 
--- that there is no exception, where there is none, and then the system, the process, the crash, and
--- what can't be read
-abbrev pub first_lines : CrashValue → List (List ℕ)
-first_lines c = none_lines c.cause.exceptions
-    ++ (head_lines c ++ (crash_lines c ++ damage_lines c))
-
 -- the lines of a crash, in their order
 abbrev pub lines_of : PageValue → List (List ℕ)
-lines_of p = first_lines p.crash ++ (crashed_lines p
+lines_of p = none_lines p.crash.cause.exceptions ++ (head_lines p.crash
+    ++ (crash_lines p.crash ++ (damage_lines p.crash ++ (crashed_lines p
     ++ (messages_lines p.crash.contents.messages ++ (each_other p p.crash.threads.threads
-    ++ (modules_lines p p.crash.contents.space.modules_error ++ lists_lines p))))
+    ++ (modules_lines p p.crash.contents.space.modules_error ++ lists_lines p)))))))
 
 -- the text of a crash: its lines, each as it is printed, with symbols where they are known
 abbrev pub text_of : TextLimits → Option SymbolizedValue → CrashValue → List ℕ

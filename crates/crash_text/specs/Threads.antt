@@ -2,13 +2,14 @@
 use Rattle.std.specs.Prelude.{ℕ, ◌++◌, ◌==◌, ◌&&◌, ◌||◌, Bool, false, true, List, [], ◌∷◌, Option}
 use Rattle.std.specs.Prelude.{Some, None, codes, if◌then◌else◌, is_none, map, not}
 use Rattle.std.specs.List.{concat, enumerate_from, flat_map}
+use Rattle.std.specs.Option.{option_map_or}
 use Rattle.minidump.specs.Below.Bytes.Piece.{hex}
-use Rattle.crash.specs.declared.contexts.ContextProblem.{ContextProblem}
-use Rattle.crash.specs.declared.contexts.ContextProblem.TheVariants.{NoSystem, NotAccepted, Outside}
-use Rattle.crash.specs.declared.frames.CrashFrame.{CrashFrame}
-use Rattle.crash.specs.declared.stacks.StackRange.{StackRange}
-use Rattle.crash_streams.specs.Process.{SystemValue}
-use Rattle.crash.specs.Threads.{ThreadValue, crashed_thread, short_context}
+use Rattle.crash_threads.specs.declared.contexts.ContextProblem.{ContextProblem}
+use Rattle.crash_threads.specs.declared.contexts.ContextProblem.TheVariants.{NoSystem, NotAccepted, Outside}
+use Rattle.crash_threads.specs.declared.frames.CrashFrame.{CrashFrame}
+use Rattle.crash_threads.specs.declared.stacks.StackRange.{StackRange}
+use Rattle.crash_process.specs.Process.{SystemValue}
+use Rattle.crash_threads.specs.Threads.{ThreadValue, crashed_thread, short_context}
 use Rattle.crash_symbols.specs.Backtraces.{BacktraceValue}
 use Rattle.crash_symbols.specs.Shown.{shown_in}
 use Rattle.crash_text.specs.declared.limits.TextLimits.{TextLimits}
@@ -16,7 +17,7 @@ use Rattle.crash_text.specs.Frames.{printed_frames, walk_lines}
 use Rattle.crash_lines.specs.Lines.{if_some, table}
 use Rattle.crash_text.specs.Page.{PageValue}
 use Rattle.crash_lines.specs.Registers.{short_if}
-use Rattle.crash_lines.specs.Words.{id_words, missing_lines, text_if, words_if}
+use Rattle.crash_lines.specs.Words.{id_words, missing_lines, text_if, words_or}
 
 -- ---- a thread
 
@@ -25,7 +26,7 @@ use Rattle.crash_lines.specs.Words.{id_words, missing_lines, text_if, words_if}
 unfoldable pub heading_lines : ThreadValue → List (List ℕ)
 heading_lines t = table (
     (codes "thread " ∷ id_words t.id ∷ text_if (codes " \"") t.name (codes "\"")
-    ∷ words_if (not t.is_listed) (codes ", not in the list of threads") ∷ [])
+    ∷ words_or (not t.is_listed) (codes ", not in the list of threads") [] ∷ [])
     ∷ (text_if (codes "    last error ") t.last_error [] ∷ [])
     ∷ (short_if (codes "    ") (short_context t) ∷ [])
     ∷ [])
@@ -102,16 +103,11 @@ each_other p threads = flat_map (λ t. other_lines p t.0 t.1) (enumerate_from 0 
 
 -- ---- all frames that are printed
 
--- those of a walk, if there is one
-abbrev pub frames_of : TextLimits → Bool → Option BacktraceValue → List CrashFrame
-frames_of limits is_whole (Some w) = map (λ f. f.frame) (printed_frames limits is_whole w)
-frames_of limits is_whole None = []
-
--- those of a thread with an index
+-- those of the walk of a thread with an index, if there is one
 abbrev pub frames_at : PageValue → ℕ → ThreadValue → List CrashFrame
-frames_at p number t = frames_of p.limits
-    (is_index p.crash.threads.crashing number || shows_all p.limits p.crash.threads.crashing)
-    (shown_in p.symbols number t)
+frames_at p number t = option_map_or (λ w. map (λ f. f.frame) (printed_frames p.limits
+    (is_index p.crash.threads.crashing number || shows_all p.limits p.crash.threads.crashing) w))
+    (shown_in p.symbols number t) []
 
 -- those of all threads
 abbrev pub frames_in : PageValue → List ThreadValue → List CrashFrame

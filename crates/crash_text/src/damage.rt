@@ -5,7 +5,7 @@ ghost use Rattle.crash_text.specs.Damage.{damage_lines, damage_row, part_words};
 ghost use Rattle.crash_lines.specs.Lines.{Adds};
 ghost use Rattle.crash_lines.specs.Parts.{part_text};
 
-use crate::lines::{Line, push_each};
+use crate::lists::{Line, push_each};
 use crash::{Crash, Damage, ModulePart, UnreadableModule};
 use crash_lines::Part::{Decimal, Failed, Hex, Id, Stream, Words};
 use crash_lines::{Added, Part, push_row};
@@ -84,7 +84,7 @@ fn part_words(part: ModulePart) -> &'static str
 }
 
 impl Line for UnreadableModule {
-    ghost use Rattle.crash_streams.specs.declared.unreadable_modules.UnreadableModule.{UnreadableModule};
+    ghost use Rattle.crash_process.specs.declared.unreadable_modules.UnreadableModule.{UnreadableModule};
     ghost use Rattle.crash_text.specs.Damage.{unreadable_line};
 
     ghost Value = { UnreadableModule };

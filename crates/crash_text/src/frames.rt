@@ -1,7 +1,7 @@
 //! The lines of the frames of a thread, and of the inlined calls in their functions.
 ghost use Rattle.std.specs.Prelude.{◌≡◌, ◌++◌, [], ◌∷◌, IfOk, OnOk, map};
 ghost use Rattle.std.specs.Option.{option_map};
-ghost use Rattle.crash_streams.specs.Modules.{loaded_of};
+ghost use Rattle.crash_process.specs.Modules.{loaded_of};
 ghost use Rattle.crash_symbols.specs.NameParts.{call_of, source_of};
 ghost use Rattle.crash_symbols.specs.Shown.{shown_frame_of, shown_of};
 ghost use Rattle.crash_text.specs.Frames.{call_entry, each_entry, end_text, entries_in, entry_line};
@@ -12,7 +12,7 @@ ghost use Rattle.crash_lines.specs.Parts.{part_text};
 ghost use Rattle.crash_text.specs.Page.{page_of};
 
 use crate::limits::TextLimits;
-use crate::page::Page;
+use crate::text::Page;
 use crash::{CrashFrame, CrashModule};
 use crash_lines::Part::{Count, Decimal, Hex, HexIf, Lossy, Place, Words};
 use crash_lines::{Added, Part, push_row, push_table};
@@ -46,7 +46,7 @@ pub(crate) fn push_walk(
 }
 
 // Returns the frames of a walk that are printed.
-#[tactic(auto, using(crash_lines::proofs::FrameLemmas::first_values))]
+#[tactic(auto, using(crash_lines::proofs::LineLemmas::values))]
 pub(crate) fn printed_frames<'s, 'l>(
     alloc: Global,
     limits: &TextLimits,
@@ -161,10 +161,7 @@ fn push_entry<'x>(
 fn source_part<'x>(source: Option<SourceLine<'x>>) -> Part<'x>
     ensures { part_text result ≡ source_text (option_map source_of source.entry) }
 {
-    match source {
-        Some(source) => Part::Line(source.file, source.line),
-        None => Part::Words(""),
-    }
+    source.map_or(Words(""), |source| Part::Line(source.file, source.line))
 }
 
 // Returns the words for how a frame was found, or that it is an inlined call.

@@ -69,10 +69,8 @@
 mod damage;
 mod frames;
 mod limits;
-mod lines;
 mod lists;
 mod modules;
-mod page;
 mod text;
 mod threads;
 

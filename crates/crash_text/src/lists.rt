@@ -1,31 +1,54 @@
-ghost use Rattle.std.specs.Prelude.{◌≡◌, [], ◌∷◌, codes, map};
+//! The lines of the lists of a dump.
+ghost use Rattle.std.specs.Prelude.{ℕ, List, [], ◌∷◌, codes, map};
 ghost use Rattle.minidump.specs.Below.Contexts.Context.{map_ok};
 ghost use Rattle.minidump.specs.Below.MemoryLists.Unified.{unified_list, unified_regions};
 ghost use Rattle.minidump.specs.Promise.{handle_data_stream, linux_environ_stream};
 ghost use Rattle.minidump.specs.Promise.{linux_proc_limits_stream, unloaded_module_list_stream};
-ghost use Rattle.crash_streams.specs.HandleKinds.{kind_of};
-ghost use Rattle.crash_streams.specs.Modules.{unloaded_module_of};
-ghost use Rattle.crash_lines.specs.Lines.{Adds, if_some};
-ghost use Rattle.crash_text.specs.Lists.{all_handles, environment_lines, handles_lines, limits_lines};
+ghost use Rattle.crash_process.specs.HandleKinds.{kind_of};
+ghost use Rattle.crash_process.specs.Modules.{unloaded_module_of};
+ghost use Rattle.crash_lines.specs.Lines.{Adds};
+ghost use Rattle.crash_text.specs.Lists.{environment_lines, handles_lines, limits_lines};
 ghost use Rattle.crash_text.specs.Lists.{list_lines, lists_lines, memory_lines};
-ghost use Rattle.crash_text.specs.Lists.{process_lists_lines, region_line, unloaded_lines};
-ghost use Rattle.crash_text.specs.Modules.{all_modules};
+ghost use Rattle.crash_text.specs.Lists.{region_line, unloaded_lines};
 ghost use Rattle.crash_text.specs.Page.{page_of};
-ghost use Rattle.crash_lines.specs.Words.{count_row};
 
 use crate::limits::TextLimits;
-use crate::lines::{Line, push_each};
-use crate::page::Page;
+use crate::text::Page;
 use crash::{
     HandleKind, ProcessLimit, StreamEntry, UnloadedModule, limits_of, regions_of, variables_of,
 };
-use crash_lines::Part::{Decimal, Failed, Hex, HexIf, HexOr, Key, Lossy, Stream, Text, Words};
+use crash_lines::Part::{Decimal, Failed, Hex, HexIf, If, Key, Lossy, Stream, Text, Words};
 use crash_lines::{Added, push_count, push_row};
 use minidump::strings::LinuxOsStr;
 use minidump::{
     Error, MinidumpHandleDataStream, MinidumpHandleDescriptor, MinidumpLinuxEnviron,
     MinidumpLinuxProcLimits, MinidumpUnloadedModuleList, UnifiedMemory, UnifiedMemoryList,
 };
+
+/// What has a line.
+pub(crate) trait Line {
+    // its value
+    ghost Value: { Type 0 };
+
+    ghost value_of: { Self → Value };
+
+    // the line of a value
+    ghost line: { Value → List ℕ };
+
+    /// Appends the line.
+    fn push(&self, out: &mut String) -> Added
+        ensures { Adds out.old out.new (line (value_of self.now) ∷ []) result };
+}
+
+/// Appends the line of each item of a list.
+pub(crate) fn push_each<T: Line>(out: &mut String, items: &[T]) -> Added
+    ensures { Adds out.old out.new (map T.line (map T.value_of items.now)) result }
+{
+    for item in items {
+        item.push(out)?;
+    }
+    Ok(())
+}
 
 // Appends the number of items of a list, and their lines if they are asked for.
 #[tactic(auto, using(crash_lines::proofs::LineLemmas::values))]
@@ -56,19 +79,14 @@ pub(crate) fn push_lists(out: &mut String, page: Page<'_, '_, '_, '_>) -> Added
         page.crash.directory.entries.as_slice(),
     )?;
     push_memory(out, limits, &space.memory, space.memory_errors)?;
-    push_maps(out, space.map_count)?;
-    push_process_lists(out, page)
-}
-
-// Appends the number of lines of the maps, if it is known.
-fn push_maps(out: &mut String, count: Option<usize>) -> Added
-    ensures { Adds out.old out.new
-        (if_some (λ count. count_row (codes "maps") count ∷ []) count) result }
-{
-    match count {
-        Some(count) => push_count(out, "maps", count),
-        None => Ok(()),
+    if let Some(count) = space.map_count {
+        push_count(out, "maps", count)?;
     }
+    let process = &page.crash.contents.process;
+    let kinds = page.crash.process.handle_kinds.as_slice();
+    push_handles(out, limits, kinds, &process.handles)?;
+    push_limits(out, limits, &process.limits)?;
+    push_environment(out, limits, &process.environ)
 }
 
 // Appends the number of modules that were unloaded, and their lines if they are asked for, if their
@@ -82,21 +100,15 @@ fn push_unloaded(
     ensures { Adds out.old out.new (unloaded_lines limits.now (map unloaded_module_of modules.now)
         (map_ok unloaded_module_list_stream.value list.now)) result }
 {
+    let is_asked = limits.lists || limits.modules;
     match list {
-        Ok(_) => push_list(out, all_modules(limits), "unloaded modules", modules),
+        Ok(_) => push_list(out, is_asked, "unloaded modules", modules),
         Err(_) => Ok(()),
     }
 }
 
-// Tells whether all modules are asked for.
-fn all_modules(limits: &TextLimits) -> bool
-    ensures { result ≡ all_modules limits.now }
-{
-    limits.lists || limits.modules
-}
-
 impl Line for UnloadedModule {
-    ghost use Rattle.crash_streams.specs.Modules.{UnloadedModuleValue};
+    ghost use Rattle.crash_process.specs.Modules.{UnloadedModuleValue};
     ghost use Rattle.crash_text.specs.Lists.{unloaded_line};
 
     ghost Value = { UnloadedModuleValue };
@@ -116,7 +128,7 @@ impl Line for UnloadedModule {
 }
 
 impl Line for StreamEntry {
-    ghost use Rattle.crash_streams.specs.declared.directory.StreamEntry.{StreamEntry};
+    ghost use Rattle.crash_process.specs.declared.directory.StreamEntry.{StreamEntry};
     ghost use Rattle.crash_text.specs.Lists.{entry_line};
 
     ghost Value = { StreamEntry };
@@ -185,17 +197,6 @@ impl Line for UnifiedMemory<'_, '_> {
     }
 }
 
-// Appends the lists of the process.
-fn push_process_lists(out: &mut String, page: Page<'_, '_, '_, '_>) -> Added
-    ensures { Adds out.old out.new (process_lists_lines (page_of page.entry)) result }
-{
-    let (limits, process) = (page.limits, &page.crash.contents.process);
-    let kinds = page.crash.process.handle_kinds.as_slice();
-    push_handles(out, limits, kinds, &process.handles)?;
-    push_limits(out, limits, &process.limits)?;
-    push_environment(out, limits, &process.environ)
-}
-
 // Appends the number of handles, the lines of their kinds, and their own if they are asked for, if
 // their list can be read.
 fn push_handles(
@@ -207,12 +208,13 @@ fn push_handles(
     ensures { Adds out.old out.new (handles_lines limits.now (map kind_of kinds.now)
         (map_ok handle_data_stream.value found.now)) result }
 {
+    let is_asked = limits.lists || limits.handles;
     match found {
         Ok(stream) => {
             let handles = stream.handles.as_slice();
             push_count(out, "handles", handles.len())?;
             push_each(out, kinds)?;
-            if all_handles(limits) {
+            if is_asked {
                 push_each(out, handles)
             } else {
                 Ok(())
@@ -222,15 +224,8 @@ fn push_handles(
     }
 }
 
-// Tells whether all handles are asked for.
-fn all_handles(limits: &TextLimits) -> bool
-    ensures { result ≡ all_handles limits.now }
-{
-    limits.lists || limits.handles
-}
-
 impl Line for HandleKind {
-    ghost use Rattle.crash_streams.specs.HandleKinds.{KindValue};
+    ghost use Rattle.crash_process.specs.HandleKinds.{KindValue};
     ghost use Rattle.crash_text.specs.Lists.{kind_line};
 
     ghost Value = { KindValue };
@@ -261,8 +256,9 @@ impl Line for MinidumpHandleDescriptor {
     #[rattlefmt::skip]
     #[tactic(auto, unfolding(crate::specs::Lists::handle_line))]
     fn push(&self, out: &mut String) -> Added {
+        let handle = self.raw.handle().copied();
         push_row(out, &[
-            Words("    "), HexOr(self.raw.handle().copied(), "no value"),
+            Words("    "), HexIf("", handle), If(handle.is_none(), "no value"),
             Text(" ", &self.type_name, ""), Text(" \"", &self.object_name, "\""),
         ])
     }
@@ -290,7 +286,7 @@ fn push_limits(
 }
 
 impl Line for ProcessLimit {
-    ghost use Rattle.crash_streams.specs.Linux.{LimitValue, limit_of};
+    ghost use Rattle.crash_process.specs.Linux.{LimitValue, limit_of};
     ghost use Rattle.crash_text.specs.Lists.{limit_line};
 
     ghost Value = { LimitValue };
@@ -336,7 +332,6 @@ fn push_environment(
 
 // A variable, by its name and its value.
 impl Line for (LinuxOsStr<'_>, LinuxOsStr<'_>) {
-    ghost use Rattle.std.specs.Prelude.{ℕ, List};
     ghost use Rattle.minidump.specs.Below.Bytes.LinuxOsStr.{parts_of};
     ghost use Rattle.crash_text.specs.Lists.{variable_line};
 

@@ -2,11 +2,11 @@ ghost use Rattle.std.specs.Prelude.{◌≡◌, IfOk};
 ghost use Rattle.std.specs.Option.{option_copied, option_map};
 ghost use Rattle.crash_symbols.specs.Shown.{symbolized_of};
 ghost use Rattle.crash_lines.specs.Lines.{Adds};
-ghost use Rattle.crash_text.specs.Modules.{HasMarks, each_module, end_if, is_marked, module_at};
+ghost use Rattle.crash_text.specs.Modules.{HasMarks, end_if, is_marked, module_at};
 ghost use Rattle.crash_text.specs.Modules.{modules_lines, named_modules, symbols_text};
 ghost use Rattle.crash_text.specs.Page.{page_of};
 
-use crate::page::Page;
+use crate::text::Page;
 use crate::threads::frames_in;
 use crash::{AddressFacts, CrashFrame};
 use crash_lines::Part::{Hex, HexIf, Key, Version, Words};
@@ -40,8 +40,9 @@ fn push_named(out: &mut String, page: Page<'_, '_, '_, '_>, frames: &[CrashFrame
 {
     let loaded = page.crash.modules.loaded.as_slice();
     let marks = marks_of(*out.allocator(), loaded.len(), frames)?;
-    let indices = page.crash.modules.by_address.as_slice();
-    push_each(out, page, marks.as_slice(), indices)?;
+    for index in page.crash.modules.by_address.as_slice() {
+        push_at(out, page, marks.as_slice(), *index)?;
+    }
     Ok(())
 }
 
@@ -58,22 +59,6 @@ fn marks_of(alloc: Global, count: usize, frames: &[CrashFrame]) -> Result<Vec<bo
         }
     }
     Ok(marks)
-}
-
-// Appends the lines of the modules of indices that are listed, by marks.
-fn push_each(
-    out: &mut String,
-    page: Page<'_, '_, '_, '_>,
-    marks: &[bool],
-    indices: &[usize],
-) -> Added
-    ensures { Adds out.old out.new (each_module (page_of page.entry)
-        (is_marked page.entry.crash.now.cause.address marks.now) indices.now) result }
-{
-    for index in indices {
-        push_at(out, page, marks, *index)?;
-    }
-    Ok(())
 }
 
 // Appends the line of the module of an index, if all modules are asked for, or if it has the
@@ -125,9 +110,6 @@ fn symbols_text(symbols: Option<&Symbolized<'_, '_>>, index: usize) -> &'static 
 fn is_marked(address: Option<AddressFacts>, marks: &[bool], index: usize) -> bool
     ensures { result ≡ is_marked address marks.now index }
 {
-    let is_at = match address {
-        Some(facts) => matches!(facts.module, Some((place, _)) if place == index),
-        None => false,
-    };
-    is_at || matches!(marks.get(index), Some(true))
+    address.is_some_and(|facts| matches!(facts.module, Some((place, _)) if place == index))
+        || matches!(marks.get(index), Some(true))
 }

@@ -6,20 +6,26 @@ ghost use Rattle.minidump.specs.Below.Format.Answer.{Gives};
 ghost use Rattle.crash.specs.Crash.{crash_in, crash_of};
 ghost use Rattle.crash_symbols.specs.Shown.{symbolized_of};
 ghost use Rattle.crash_lines.specs.Escape.{is_printed};
-ghost use Rattle.crash_lines.specs.Lines.{Adds};
-ghost use Rattle.crash_text.specs.Text.{first_lines, text_of};
+ghost use Rattle.crash_text.specs.Text.{text_of};
 
 use crate::damage::push_damage;
 use crate::limits::TextLimits;
 use crate::lists::push_lists;
 use crate::modules::push_modules;
-use crate::page::Page;
 use crate::threads::{push_crashed, push_others};
 use crash::Crash;
-use crash_lines::{Added, push_crash, push_head, push_messages, push_none};
+use crash_lines::{push_crash, push_head, push_messages, push_none};
 use crash_symbols::Symbolized;
 use minidump::{CodeNames, Error};
 use std::alloc::{AllocError, Global};
+
+// What a text is made of: a crash, how much of it is printed, and its symbols if they are known.
+#[derive(Clone, Copy)]
+pub(crate) struct Page<'l, 'a, 's, 'n> {
+    pub(crate) crash: &'l Crash<'a>,
+    pub(crate) limits: &'l TextLimits,
+    pub(crate) symbols: Option<&'l Symbolized<'s, 'n>>,
+}
 
 /// Makes the text of the crash of a minidump, whose bytes are `bytes`. The names of codes are those
 /// of `names`, and at most `scan` words of each stack are taken for candidates.
@@ -62,22 +68,14 @@ pub fn text_of<'l>(
         limits,
         symbols,
     };
-    push_first(&mut text, crash)?;
+    push_none(&mut text, crash.cause.exceptions.as_slice())?;
+    push_head(&mut text, crash)?;
+    push_crash(&mut text, crash)?;
+    push_damage(&mut text, crash)?;
     push_crashed(&mut text, page)?;
     push_messages(&mut text, &crash.contents.messages)?;
     push_others(&mut text, page, crash.threads.threads.as_slice())?;
     push_modules(&mut text, page, crash.contents.space.modules_error)?;
     push_lists(&mut text, page)?;
     Ok(text)
-}
-
-// Appends that there is no exception, if there is none, and then the system, the process, the
-// crash, and what can't be read.
-fn push_first(out: &mut String, crash: &Crash<'_>) -> Added
-    ensures { Adds out.old out.new (first_lines (crash_of crash.now)) result }
-{
-    push_none(out, crash.cause.exceptions.as_slice())?;
-    push_head(out, crash)?;
-    push_crash(out, crash)?;
-    push_damage(out, crash)
 }

@@ -1,7 +1,7 @@
 ghost use Rattle.std.specs.Prelude.{◌≡◌, [], ◌∷◌, ◌++◌, IfOk, OnOk, if◌then◌else◌, map};
 ghost use Rattle.std.specs.Option.{option_map};
-ghost use Rattle.crash_streams.specs.Process.{system_of};
-ghost use Rattle.crash.specs.Threads.{thread_value};
+ghost use Rattle.crash_process.specs.Process.{system_of};
+ghost use Rattle.crash_threads.specs.Threads.{thread_value};
 ghost use Rattle.crash_lines.specs.Lines.{Adds};
 ghost use Rattle.crash_text.specs.Page.{page_of};
 ghost use Rattle.crash_text.specs.Threads.{crashed_lines, each_other, frames_at, frames_in};
@@ -11,7 +11,7 @@ ghost use Rattle.crash_text.specs.Threads.{stack_lines, thread_lines};
 
 use crate::frames::{printed_frames, push_walk};
 use crate::limits::TextLimits;
-use crate::page::Page;
+use crate::text::Page;
 use crash::{ContextProblem, CrashFrame, CrashSystem, CrashThread, StackRange};
 use crash_lines::Part::{Hex, Id, If, Short, Text, Words};
 use crash_lines::{Added, push_if_missing, push_row, push_table, push_text_line};
@@ -75,10 +75,7 @@ fn shows_all(limits: &TextLimits, crashing: Option<usize>) -> bool
 fn is_index(index: Option<usize>, number: usize) -> bool
     ensures { result ≡ is_index index number }
 {
-    match index {
-        Some(index) => index == number,
-        None => false,
-    }
+    index == Some(number)
 }
 
 // Appends the lines of a thread with its index.
@@ -146,10 +143,7 @@ fn push_stack(out: &mut String, is_whole: bool, thread: &CrashThread) -> Added
 fn is_range(range: &StackRange, other: &Option<StackRange>) -> bool
     ensures { result ≡ is_range range.now other.now }
 {
-    match other {
-        Some(other) => other.base == range.base && other.size == range.size,
-        None => false,
-    }
+    matches!(other, Some(other) if other.base == range.base && other.size == range.size)
 }
 
 // Appends the line of a range of addresses after words.

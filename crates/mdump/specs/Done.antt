@@ -1,6 +1,6 @@
 -- What the program writes.
 use Rattle.std.specs.Prelude.{◌≡◌, ◌↔◌, ◌⊎◌, ℕ, ◌≤◌, ◌++◌, List, [], ◌∷◌, bytes_eq, codes, Bool, true}
-use Rattle.std.specs.Prelude.{if◌then◌else◌, Option, Some, None, Result, Ok, Err, IfErr, IsErrAnd, ⊤}
+use Rattle.std.specs.Prelude.{if◌then◌else◌, Option, Some, None, Result, Ok, Err, IfErr, IsErrAnd, IsOkAnd, ⊤}
 use Rattle.std.specs.Option.{option_map, option_or}
 use Rattle.std.specs.Result.{result_ok}
 use Rattle.minidump.specs.declared.Told.{Told}
@@ -79,7 +79,7 @@ text_of Report dump = report_text [] dump
 abbrev pub IsDoneOn : {D : Type 0} → (D → Option (List ℕ)) → Told D → Told D → Task → List ℕ
     → Result (Unit {0}) Error → Type 0
 IsDoneOn contents old new task bytes result =
-    ((dump : Dump) × (dump_in bytes ≡ Ok dump) × Prints contents old new (text_of task dump) result)
+    IsOkAnd (dump_in bytes) (λ dump. Prints contents old new (text_of task dump) result)
     ⊎ ((new ≡ old) × IsErrAnd result (IsDumpErrorOr ⊤ bytes))
 
 -- `opens path answer` says what opening a path returns, `left` which bytes a file has left, where they

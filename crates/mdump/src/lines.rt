@@ -23,7 +23,7 @@ use std::alloc::{AllocError, Global};
 use std::io::Write;
 
 // Writes the lines of what lies at an address.
-#[tactic(auto, using(crate::proofs::PrintLemmas::unprinted))]
+#[tactic(auto, using(minidump::proofs::ReportLemmas::prints_nothing))]
 pub(crate) fn print_lines<O: Write>(
     dump: &Minidump<'_>,
     alloc: Global,

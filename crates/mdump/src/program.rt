@@ -42,11 +42,9 @@ pub fn run<R: OpenPath + AllocGlobal, O: Write, E: Write>(
         out.old out.new err.old err.new result }
 {
     match answer(rt, words, out) {
+        Some(Ok(())) => 0,
+        Some(Err(error)) => fail_with(subject_of(words), error, err),
         None => bad_arguments(err),
-        Some(answer) => match answer {
-            Ok(()) => 0,
-            Err(error) => fail_with(subject_of(words), error, err),
-        },
     }
 }
 

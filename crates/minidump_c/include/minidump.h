@@ -303,7 +303,8 @@ struct minidump_thread {
     uint64_t stack_size; /* 0 for none */
     struct minidump_span name;
     struct minidump_span last_error; /* in words, which Windows alone keeps */
-    size_t frame_count;              /* how many frames it has, without candidates */
+    size_t frame_count;              /* how many frames and candidates it has */
+    size_t candidate_count;          /* how many of these are candidates, the last ones */
     size_t short_size;               /* how many bytes its context has, where its writer cut it, else 0 */
     size_t whole_size;               /* how many a whole one has, where it is cut, else 0 */
     uint32_t id;

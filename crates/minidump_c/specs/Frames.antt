@@ -1,8 +1,8 @@
 -- The frames of a thread, as rows.
 use Rattle.std.specs.Prelude.{ℕ, ◌++◌, List, map, unwrap_or}
 use Rattle.std.specs.Option.{option_map}
-use Rattle.crash.specs.Frames.{CrashWalkValue}
-use Rattle.crash.specs.declared.frames.CrashFrame.{CrashFrame}
+use Rattle.crash_threads.specs.Frames.{CrashWalkValue}
+use Rattle.crash_threads.specs.declared.frames.CrashFrame.{CrashFrame}
 use Rattle.stack_walk.specs.declared.end.WalkEnd.{WalkEnd}
 use Rattle.stack_walk.specs.declared.end.WalkEnd.TheVariants as end
 use Rattle.stack_walk.specs.declared.frame.FrameTrust.{FrameTrust}

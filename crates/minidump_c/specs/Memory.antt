@@ -1,7 +1,7 @@
 -- The region of memory at an address, and the table of all regions.
-use Rattle.std.specs.Prelude.{◌≡◌, ℕ, ◌-◌, List, [], drop, map, Option, Some, None, Ok}
+use Rattle.std.specs.Prelude.{◌≡◌, ℕ, ◌-◌, List, [], drop, map, Option, Some, None, IsOkAnd}
 use Rattle.std.specs.Option.{option_and_then}
-use Rattle.minidump.specs.Dump.{Dump, dump_in}
+use Rattle.minidump.specs.Dump.{dump_in}
 use Rattle.minidump.specs.Below.Index.Lookup.{IsByAddress, looked_up}
 use Rattle.minidump.specs.Below.MemoryLists.Memory.{range_of_region}
 use Rattle.minidump.specs.Below.MemoryLists.Unified.{UnifiedRegion, UnifiedRegions, unified_regions}
@@ -20,9 +20,8 @@ row_of None = record { base = 0; size = 0 }
 
 -- the kept region that has the address
 abbrev pub IsRegionAt : List ℕ → ℕ → Region → Type 0
-IsRegionAt bytes address region =
-    (dump : Dump) × (dump_in bytes ≡ Ok dump)
-    × (region ≡ row_of (memory_at (memories_of_dump dump) address))
+IsRegionAt bytes address region = IsOkAnd (dump_in bytes)
+    (λ dump. region ≡ row_of (memory_at (memories_of_dump dump) address))
 
 -- the bytes of a region from an address on
 abbrev pub bytes_from : Option UnifiedRegion → ℕ → List ℕ
@@ -31,9 +30,8 @@ bytes_from None address = []
 
 -- the bytes of the kept region that has the address, from there on
 abbrev pub IsReadAt : List ℕ → ℕ → List ℕ → Type 0
-IsReadAt bytes address read =
-    (dump : Dump) × (dump_in bytes ≡ Ok dump)
-    × (read ≡ bytes_from (memory_at (memories_of_dump dump) address) address)
+IsReadAt bytes address read = IsOkAnd (dump_in bytes)
+    (λ dump. read ≡ bytes_from (memory_at (memories_of_dump dump) address) address)
 
 -- the kept regions, ascending by address, as rows
 abbrev pub IsTableOfRegions : List UnifiedRegion → List Region → Type 0
@@ -48,5 +46,4 @@ IsTableIn None rows = rows ≡ []
 
 -- the table of the regions of memory of a dump
 abbrev pub IsTableOf : List ℕ → List Region → Type 0
-IsTableOf bytes rows =
-    (dump : Dump) × (dump_in bytes ≡ Ok dump) × IsTableIn (memories_of_dump dump) rows
+IsTableOf bytes rows = IsOkAnd (dump_in bytes) (λ dump. IsTableIn (memories_of_dump dump) rows)

@@ -5,13 +5,13 @@ use Rattle.minidump.specs.declared.system_info.Cpu.{Cpu}
 use Rattle.minidump.specs.declared.system_info.Cpu.TheVariants as cpu
 use Rattle.minidump.specs.declared.system_info.Os.{Os}
 use Rattle.minidump.specs.declared.system_info.Os.TheVariants as os
-use Rattle.crash.specs.Cause.{counted_exception}
-use Rattle.crash.specs.Contexts.{ContextValue}
+use Rattle.crash_threads.specs.Cause.{counted_exception}
+use Rattle.crash_threads.specs.Contexts.{ContextValue}
 use Rattle.crash.specs.Crash.{CrashValue}
-use Rattle.crash.specs.Frames.{CrashWalkValue}
-use Rattle.crash.specs.Threads.{ThreadValue, crashed_thread}
-use Rattle.crash.specs.declared.contexts.ContextOrigin.{ContextOrigin}
-use Rattle.crash.specs.declared.contexts.ContextOrigin.TheVariants.{OfException, OfThread}
+use Rattle.crash_threads.specs.Frames.{CrashWalkValue}
+use Rattle.crash_threads.specs.Threads.{ThreadValue, crashed_thread}
+use Rattle.crash_threads.specs.declared.contexts.ContextOrigin.{ContextOrigin}
+use Rattle.crash_threads.specs.declared.contexts.ContextOrigin.TheVariants.{OfException, OfThread}
 use Rattle.minidump_c.specs.declared.numbers.CrashRow.{CrashRow}
 use Rattle.minidump_c.specs.Exceptions.{exception_row}
 use Rattle.minidump_c.specs.Facts.{facts_row}

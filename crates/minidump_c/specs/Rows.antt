@@ -1,5 +1,5 @@
 -- A crash as numbers, tables and texts, and what a call writes of it to a caller's buffers.
-use Rattle.std.specs.Prelude.{◌≡◌, ℕ, List, [], length, Result, Ok}
+use Rattle.std.specs.Prelude.{◌≡◌, ℕ, List, [], length, Result, IsOkAnd}
 use Rattle.std.specs.Option.{option_map_or}
 use Rattle.minidump.specs.declared.Error.{Error}
 use Rattle.minidump.specs.Below.Contexts.Context.{map_ok}
@@ -106,5 +106,4 @@ filled_with rows old = record {
 
 -- the buffers hold the assigned rows
 abbrev pub IsTold : Result RowsValue Error → RowsValue → RowsValue → Type 0
-IsTold assigned old new =
-    (rows : RowsValue) × (assigned ≡ Ok rows) × (new ≡ filled_with rows old)
+IsTold assigned old new = IsOkAnd assigned (λ rows. new ≡ filled_with rows old)

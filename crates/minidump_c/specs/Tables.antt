@@ -1,9 +1,9 @@
 -- The registers, the threads, the modules and the unloaded modules of a crash, as rows. Each row comes
 -- with the texts before it and after them its own.
-use Rattle.std.specs.Prelude.{ℕ, ◌++◌, List, length, unwrap_or}
+use Rattle.std.specs.Prelude.{ℕ, ◌+◌, ◌++◌, List, length, unwrap_or}
 use Rattle.std.specs.Option.{option_map_or}
-use Rattle.crash_streams.specs.Modules.{LoadedValue, UnloadedModuleValue}
-use Rattle.crash.specs.Threads.{ThreadValue, short_context}
+use Rattle.crash_process.specs.Modules.{LoadedValue, UnloadedModuleValue}
+use Rattle.crash_threads.specs.Threads.{ThreadValue, short_context}
 use Rattle.minidump_c.specs.declared.tables.ModuleRow.{ModuleRow}
 use Rattle.minidump_c.specs.declared.tables.RegisterRow.{RegisterRow}
 use Rattle.minidump_c.specs.declared.tables.ThreadRow.{ThreadRow}
@@ -23,7 +23,8 @@ thread_row before t = (
     stack_size = option_map_or (λ s. s.size) t.stack 0;
     name = span_after before (text_in t.name);
     last_error = span_after (before ++ text_in t.name) (text_in t.last_error);
-    frame_count = option_map_or (λ w. length w.frames) t.walk 0;
+    frame_count = option_map_or (λ w. length w.frames + length w.candidates) t.walk 0;
+    candidate_count = option_map_or (λ w. length w.candidates) t.walk 0;
     short_size = option_map_or (λ s. s.size) (short_context t) 0;
     whole_size = option_map_or (λ s. s.whole) (short_context t) 0;
     id = t.id;

@@ -1,9 +1,9 @@
 -- Texts in a caller's buffer.
-use Rattle.std.specs.Prelude.{◌≡◌, ℕ, List, ◌++◌, length, take, drop, false, None, Result, Ok}
+use Rattle.std.specs.Prelude.{◌≡◌, ℕ, List, ◌++◌, length, take, drop, false, None, Result, IsOkAnd}
 use Rattle.minidump.specs.declared.Error.{Error}
 use Rattle.minidump.specs.Below.Contexts.Context.{map_ok}
 use Rattle.minidump.specs.Below.Reasons.Names.{Lists}
-use Rattle.minidump.specs.Dump.{Dump, dump_in}
+use Rattle.minidump.specs.Dump.{dump_in}
 use Rattle.minidump.specs.Report.{report_text}
 use Rattle.minidump.specs.Text.{dump_text}
 use Rattle.crash.specs.Crash.{crash_in}
@@ -20,12 +20,11 @@ IsFilled {A} Are old new count =
 
 -- the text of the header and the directory
 abbrev pub IsDirectoryOf : List ℕ → List ℕ → Type 0
-IsDirectoryOf bytes text = (dump : Dump) × (dump_in bytes ≡ Ok dump) × (text ≡ dump_text dump)
+IsDirectoryOf bytes text = IsOkAnd (dump_in bytes) (λ dump. text ≡ dump_text dump)
 
 -- the report, with the names of codes of these lists
 abbrev pub IsReportOf : List ℕ → Lists → List ℕ → Type 0
-IsReportOf bytes names text =
-    (dump : Dump) × (dump_in bytes ≡ Ok dump) × (text ≡ report_text names dump)
+IsReportOf bytes names text = IsOkAnd (dump_in bytes) (λ dump. text ≡ report_text names dump)
 
 -- the JSON text of the crash of a file, without a path and the environment, and with at most so many
 -- frames a thread, or why the file is no minidump

@@ -1,6 +1,6 @@
 ghost use Rattle.std.specs.Prelude.{◌≡◌};
 ghost use Rattle.std.specs.Option.{option_copied, option_map, option_map_or};
-ghost use Rattle.crash.specs.Cause.{exception_of};
+ghost use Rattle.crash_threads.specs.Cause.{exception_of};
 ghost use Rattle.minidump_c.specs.Exceptions.{access_number, exception_row, problem_number};
 
 use crate::spans::flag;

@@ -6,7 +6,7 @@ use crash::{AddressFacts, RegionState};
 
 /// What is known of an address. A number that is absent is 0.
 #[repr(C)]
-#[derive(Clone, Copy)]
+#[derive(Clone, Copy, Default)]
 pub struct FactsRow {
     /// The address.
     pub address: u64,
@@ -51,23 +51,13 @@ pub struct FactsRow {
     pub is_guarded: u8,
 }
 
-// What is known of no address.
-const NO_FACTS: AddressFacts = AddressFacts {
-    address: 0,
-    null_offset: None,
-    is_canonical: false,
-    module: None,
-    unloaded: None,
-    stack_of: None,
-    below_stack: None,
-    memory: None,
-};
-
 // Returns the numbers of the address of a crash, zeros without one.
 pub(crate) fn facts_row(given: Option<AddressFacts>) -> FactsRow
     ensures { result ≡ facts_row given }
 {
-    let facts = given.unwrap_or(NO_FACTS);
+    let Some(facts) = given else {
+        return FactsRow::default();
+    };
     let (module, module_offset) = facts.module.unwrap_or((0, 0));
     FactsRow {
         address: facts.address,
@@ -78,7 +68,7 @@ pub(crate) fn facts_row(given: Option<AddressFacts>) -> FactsRow
         stack_of: facts.stack_of.unwrap_or(0),
         below_stack: facts.below_stack.unwrap_or(0),
         memory_state: facts.memory.map_or(0, |m| state_number(m.state)),
-        has_address: flag(&given),
+        has_address: 1,
         has_null_offset: flag(&facts.null_offset),
         is_canonical: bit(facts.is_canonical),
         has_module: flag(&facts.module),

@@ -1,6 +1,6 @@
 ghost use Rattle.std.specs.Prelude.{◌≡◌, [], IfOk, map};
 ghost use Rattle.std.specs.Option.{option_copied, option_map, option_map_or};
-ghost use Rattle.crash.specs.Frames.{crash_walk_of};
+ghost use Rattle.crash_threads.specs.Frames.{crash_walk_of};
 ghost use Rattle.minidump_c.specs.Frames.{end_number, frame_row, frame_rows, trust_number};
 
 use crate::spans::flag;

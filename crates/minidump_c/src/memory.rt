@@ -140,9 +140,8 @@ fn table(alloc: Global, bytes: &[u8]) -> Result<Vec<Region>, Error>
     ensures error { IfErr result (IsDumpError bytes.now) }
 {
     let dump = Minidump::read(alloc, bytes)?;
-    let memory = dump.get_memory(alloc)?;
-    match memory {
-        Some(list) => Ok(region_rows(alloc, &list)?),
+    match dump.get_memory(alloc)? {
+        Some(memory) => Ok(region_rows(alloc, &memory)?),
         None => Ok(Vec::new(alloc)),
     }
 }
@@ -152,9 +151,8 @@ fn region_rows(alloc: Global, memory: &UnifiedMemoryList<'_>) -> Result<Vec<Regi
     ensures { IfOk result (λ rows. IsTableOfRegions
         (unified_regions (unified_list memory.now)) rows.items) }
 {
-    let mut rows = Vec::new(alloc);
-    for region in memory.by_addr() {
-        rows.push(row_of(Some(region)))?;
-    }
-    Ok(rows)
+    memory
+        .by_addr()
+        .map(|region| row_of(Some(region)))
+        .collect(alloc)
 }

@@ -1,9 +1,9 @@
 ghost use Rattle.std.specs.Prelude.{◌≡◌, [], IfOk, OnOk, map};
 ghost use Rattle.std.specs.Option.{option_copied, option_map};
-ghost use Rattle.crash.specs.Contexts.{context_of};
+ghost use Rattle.crash_threads.specs.Contexts.{context_of};
 ghost use Rattle.crash.specs.Crash.{crash_of};
-ghost use Rattle.crash.specs.Frames.{crash_walk_of};
-ghost use Rattle.crash.specs.Threads.{thread_value};
+ghost use Rattle.crash_threads.specs.Frames.{crash_walk_of};
+ghost use Rattle.crash_threads.specs.Threads.{thread_value};
 ghost use Rattle.minidump_c.specs.Numbers.{cpu_number, crash_row, crashed, origin_number, os_number};
 ghost use Rattle.minidump_c.specs.Numbers.{own_texts, registers_of};
 ghost use Rattle.minidump_c.specs.Numbers as c;

@@ -1,5 +1,5 @@
 ghost use Rattle.std.specs.Prelude.{◌≡◌, ⊤, IfErr, IfOk, Ok};
-ghost use Rattle.minidump.specs.Below.Format.Answer.{Gives, GivesError};
+ghost use Rattle.minidump.specs.Below.Format.Answer.{GivesError};
 ghost use Rattle.crash.specs.Crash.{crash_of};
 ghost use Rattle.minidump_c.specs.Status.{EndsNamed, IsNamed, IsNamedError};
 ghost use Rattle.minidump_c.specs.Rows.{IsTold, buffers, rows_in, rows_of, rows_value};
@@ -11,7 +11,7 @@ use crate::status::CallError;
 use crate::tables::{ModuleRow, RegisterRow, ThreadRow, UnloadedRow};
 use crate::text::fill;
 use crash::Crash;
-use minidump::{CodeNames, Error};
+use minidump::Error;
 use minidump_names::NameTable;
 use std::alloc::{AllocError, Global};
 
@@ -80,17 +80,10 @@ fn named_rows(alloc: Global, bytes: &[u8], names: &[u8], scan: usize) -> Result<
 {
     let table = NameTable::read(alloc, names)?;
     let lists = table.lists(alloc)?;
-    Ok(rows_in(alloc, bytes, &lists.code_names(), scan)?)
-}
-
-// Reads a crash.
-fn rows_in(alloc: Global, bytes: &[u8], names: &CodeNames<'_>, scan: usize) -> Result<Rows, Error>
-    ensures { Gives rows_value ⊤ result (rows_in bytes.now scan names.now) }
-{
-    let crash = Crash::read(alloc, bytes, names, scan)?;
+    let crash = Crash::read(alloc, bytes, &lists.code_names(), scan)?;
     let rows = rows_of(alloc, &crash);
     crash.close();
-    Ok(rows?)
+    Ok(rows.map_err(Error::from)?)
 }
 
 // Makes the rows of a crash.

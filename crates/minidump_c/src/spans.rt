@@ -71,7 +71,7 @@ pub(crate) trait MakeRow {
 }
 
 /// Makes the rows of items, and appends their texts.
-#[tactic(auto, using(crate::proofs::RowLemmas::rest_at))]
+#[tactic(auto, using(std::proofs::lemmas::List::drop_more))]
 pub(crate) fn make_rows<X: MakeRow>(
     alloc: Global,
     items: &[X],

@@ -24,8 +24,10 @@ pub struct ThreadRow {
     pub name: Span,
     /// The last error in words.
     pub last_error: Span,
-    /// The number of its frames, without candidates.
+    /// The number of its frames and candidates.
     pub frame_count: usize,
+    /// The number of its candidates, the last of these.
+    pub candidate_count: usize,
     /// How many bytes its context has, if it is cut.
     pub short_size: usize,
     /// How many bytes a whole context has, if that is cut.
@@ -94,7 +96,7 @@ impl MakeRow for (&'static str, u64) {
 }
 
 impl MakeRow for CrashThread {
-    ghost use Rattle.crash.specs.Threads.{ThreadValue, thread_value};
+    ghost use Rattle.crash_threads.specs.Threads.{ThreadValue, thread_value};
     ghost use Rattle.minidump_c.specs.Tables.{thread_row};
 
     type Row = ThreadRow;
@@ -114,7 +116,11 @@ impl MakeRow for CrashThread {
             stack_size: self.stack.map_or(0, |s| s.size),
             name,
             last_error,
-            frame_count: self.walk.as_ref().map_or(0, |w| w.frames.len()),
+            frame_count: self
+                .walk
+                .as_ref()
+                .map_or(0, |w| w.frames.len() + w.candidates.len()),
+            candidate_count: self.walk.as_ref().map_or(0, |w| w.candidates.len()),
             short_size: short.map_or(0, |s| s.size),
             whole_size: short.map_or(0, |s| s.whole),
             id: self.id,
@@ -125,7 +131,7 @@ impl MakeRow for CrashThread {
 }
 
 impl MakeRow for CrashModule {
-    ghost use Rattle.crash_streams.specs.Modules.{LoadedValue, loaded_of};
+    ghost use Rattle.crash_process.specs.Modules.{LoadedValue, loaded_of};
     ghost use Rattle.minidump_c.specs.Tables.{module_row};
 
     type Row = ModuleRow;
@@ -155,7 +161,7 @@ impl MakeRow for CrashModule {
 }
 
 impl MakeRow for UnloadedModule {
-    ghost use Rattle.crash_streams.specs.Modules.{UnloadedModuleValue, unloaded_module_of};
+    ghost use Rattle.crash_process.specs.Modules.{UnloadedModuleValue, unloaded_module_of};
     ghost use Rattle.minidump_c.specs.Tables.{unloaded_row};
 
     type Row = UnloadedRow;

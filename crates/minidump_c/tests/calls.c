@@ -156,8 +156,8 @@ static void crash(const uint8_t *bytes, size_t len, const char *names, size_t na
     for (int i = 0; i < 3; i++) {
         struct minidump_thread *t = &rows.threads[i];
         if (is_left("thread", t, sizeof *t)) continue;
-        printf("  thread %u %u %u 0x%llx 0x%llx %zu %zu %zu", t->id, t->has_context, t->is_listed, (number)t->stack_base,
-               (number)t->stack_size, t->frame_count, t->short_size, t->whole_size);
+        printf("  thread %u %u %u 0x%llx 0x%llx %zu %zu %zu %zu", t->id, t->has_context, t->is_listed, (number)t->stack_base,
+               (number)t->stack_size, t->frame_count, t->candidate_count, t->short_size, t->whole_size);
         print_text("name", t->name);
         print_text("last_error", t->last_error);
         printf("\n");

@@ -1,20 +1,12 @@
 -- The greatest of statuses, with one more.
 use Rattle.std.proofs.Common.{◌≡◌, ◌++◌, ◌<◌, ◌≤◌, ◌+◌, ℕ, List, [], ◌∷◌, arith, get_or, inl, inr, length, map, max, subst, take}
 use Rattle.std.specs.Prelude.{Contains}
-use Rattle.std.specs.List.{AllZip}
 use Rattle.std.proofs.lemmas.Bool.{cases_lt}
 use Rattle.std.proofs.lemmas.List.{map_more}
 use Rattle.std.proofs.lemmas.List.Elements.{All-push, All-weaker, Contains-append_left, Contains-push}
+use Rattle.std.proofs.lemmas.Slice.Zip.{all_zipped_more}
 use Rattle.whocrashed_inputs.specs.Input.{Asked}
 use Rattle.whocrashed.specs.Status.{IsGreatest}
-
--- lists whose items are pairwise in a relation, with one more of each
-zip_push : {A B : Type 0} (R : A → B → Type 0) (xs : List A) (ys : List B) (x : A) (y : B) → AllZip R xs ys → R x y
-    → AllZip R (xs ++ x ∷ []) (ys ++ y ∷ [])
-zip_push R [] [] x y h r = (r, tt)
-zip_push R [] (b ∷ ys) x y h r = absurd h
-zip_push R (a ∷ xs) [] x y h r = absurd h
-zip_push R (a ∷ xs) (b ∷ ys) x y h r = (h.0, zip_push R xs ys x y h.1 r)
 
 -- the greater of one of a list and one more is one of both
 among : (xs : List ℕ) (n m : ℕ) → Contains xs n → Contains (xs ++ m ∷ []) (max n m)
@@ -35,7 +27,7 @@ module _ (may : Asked → ℕ → Type 0) (first : ℕ) where
   unfolding IsGreatest
   with_next value xs i d n m both within given (statuses, each, there, greatest) same = rw (map_more value xs i d within, same) (
     statuses ++ m ∷ [],
-    zip_push may (map value (take i xs)) statuses (value (get_or xs i d)) m each given,
+    all_zipped_more may (map value (take i xs)) statuses (value (get_or xs i d)) m each given,
     among (first ∷ statuses) n m there,
     All-push (λ other. other ≤ max n m) (first ∷ statuses) m
         (All-weaker (λ other. other ≤ n) (λ other. other ≤ max n m) (λ other h. grind (arith)) (first ∷ statuses) greatest) (grind (arith)),

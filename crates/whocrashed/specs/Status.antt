@@ -1,7 +1,7 @@
 -- The status of the program: by what was read at a path, of a run, and by arguments that give no
 -- options.
 use Rattle.std.specs.Prelude.{◌≡◌, ◌≤◌, ◌⊎◌, ℕ, Bool, true, false, List, [], ◌∷◌, All, Contains}
-use Rattle.std.specs.Prelude.{Option, Some, None, Result, Ok, Err}
+use Rattle.std.specs.Prelude.{Option, Some, Result, Ok}
 use Rattle.std.specs.List.{AllZip}
 use Rattle.std.specs.Global.{Vec}
 use Rattle.std.specs.declared.io.ErrorKind.{ErrorKind as IoKind}
@@ -10,27 +10,20 @@ use Rattle.clap.specs.declared.error.kind.ErrorKind.{ErrorKind}
 use Rattle.clap.specs.declared.error.kind.ErrorKind.TheVariants as kind
 use Rattle.minidump.specs.Below.Reasons.Names.{Lists}
 use Rattle.crash.specs.Crash.{crash_in, status_of}
-use Rattle.whocrashed_inputs.specs.Input.{Asked, File, Input, Malformed}
+use Rattle.whocrashed_inputs.specs.Input.{Asked, Input, Malformed}
 
 -- the status of the crash that the bytes hold, with the names of codes of these lists and at most so
 -- many candidates a thread; 1 where the file has more bytes than the limit, or can't be read
 unfoldable pub status_read : {E : Type 0} → Lists → ℕ → Result (Option (Vec ℕ)) E → ℕ
 status_read names scan (Ok (Some bytes)) = status_of (crash_in bytes.items names scan)
-status_read names scan (Ok None) = 1
-status_read names scan (Err error) = 1
-
--- a status is that of what reading a dump may return
-abbrev pub HasRead : {E : Type 0} → (Asked → Result (Option (Vec ℕ)) E → Type 0) → Lists → ℕ → Asked
-    → ℕ → Type 0
-HasRead {E} reads names scan asked status = (read : Result (Option (Vec ℕ)) E) × reads asked read
-    × (status ≡ status_read names scan read)
+status_read names scan _ = 1
 
 -- a dump that was asked for has a status: that of what reading it returns, or 1 where its path is no text
 abbrev pub HasStatus : {E : Type 0} → (Asked → Result (Option (Vec ℕ)) E → Type 0) → Lists → ℕ → Asked
     → ℕ → Type 0
-HasStatus reads names scan Input status = HasRead reads names scan Input status
-HasStatus reads names scan (File path) status = HasRead reads names scan (File path) status
 HasStatus reads names scan (Malformed path) status = status ≡ 1
+HasStatus {E} reads names scan asked status = (read : Result (Option (Vec ℕ)) E) × reads asked read
+    × (status ≡ status_read names scan read)
 
 -- it may have that one, or 1 where memory ran out
 abbrev pub MayHave : {E : Type 0} → (Asked → Result (Option (Vec ℕ)) E → Type 0) → Lists → ℕ → Asked
@@ -46,14 +39,12 @@ IsGreatest may first dumps status = (statuses : List ℕ) × AllZip may dumps st
 -- the list of paths by what reading it returned: an empty one if it can't be read
 abbrev pub list_read : {E : Type 0} → Result (Option (Vec ℕ)) E → List ℕ
 list_read (Ok (Some bytes)) = bytes.items
-list_read (Ok None) = []
-list_read (Err error) = []
+list_read _ = []
 
 -- the status before the dumps: what it was, or 1 where the list of paths can't be read
 abbrev pub status_before : {E : Type 0} → Result (Option (Vec ℕ)) E → ℕ → ℕ
 status_before (Ok (Some bytes)) old = old
-status_before (Ok None) old = 1
-status_before (Err error) old = 1
+status_before _ old = 1
 
 -- the list of paths, and the status before the dumps, by what it was: by what reading standard input may
 -- return; an empty list where none is asked for

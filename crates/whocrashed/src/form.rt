@@ -2,7 +2,7 @@ ghost use Rattle.std.specs.Prelude.{◌≡◌, ◌++◌, [], ◌∷◌, IfOk, No
 ghost use Rattle.std.specs.Option.{option_copied, option_map};
 ghost use Rattle.crash.specs.Crash.{crash_of};
 ghost use Rattle.crash_symbols.specs.Shown.{symbolized_of};
-ghost use Rattle.whocrashed.specs.Form.{IsByFiles, form_in, json_limits, text_limits};
+ghost use Rattle.whocrashed.specs.Form.{IsByFiles, form_in, text_limits};
 ghost use Rattle.whocrashed_inputs.specs.Options.{has_dirs};
 
 use crate::report::Reporter;
@@ -12,7 +12,7 @@ use crash_symbols::{Backtraces, Symbolized};
 use crash_text::{TextLimits, text_of};
 use std::alloc::AllocError;
 use std::str;
-use whocrashed_inputs::{Form, Options, SymbolCache, unknown};
+use whocrashed_inputs::{Form, SymbolCache, unknown};
 
 // How often further symbol files are looked for, for one dump.
 const ROUNDS: usize = 64;
@@ -70,41 +70,28 @@ impl Reporter<'_, '_, '_> {
             (crash_of crash.now)) }
     {
         let alloc = self.rt.alloc();
-        let text = text_limits(self.options);
-        let json = json_limits(&text);
-        match self.options.form {
+        let options = self.options;
+        let text = TextLimits {
+            frames: options.frames,
+            all_threads: options.all_threads,
+            lists: options.lists,
+            modules: options.modules,
+            handles: options.handles,
+            environment: options.environment,
+        };
+        let limits = JsonLimits {
+            frames: text.frames,
+            environment: text.environment,
+        };
+        match options.form {
             Form::Lines => Ok(text_of(alloc, crash, &text, symbols)?.into_bytes()),
-            Form::Json => end_line(json_of(alloc, Some(path), crash, &json, symbols)?),
+            Form::Json => end_line(json_of(alloc, Some(path), crash, &limits, symbols)?),
             Form::Html => {
-                let json = json_of(alloc, Some(path), crash, &json, symbols)?;
+                let json = json_of(alloc, Some(path), crash, &limits, symbols)?;
                 let json = str::from_utf8(&json).unwrap_or("null");
                 Ok(crash_html::page(alloc, json)?.into_bytes())
             }
         }
-    }
-}
-
-// Returns how much of a crash its text has.
-fn text_limits(options: &Options<'_>) -> TextLimits
-    ensures { result ≡ text_limits options.now }
-{
-    TextLimits {
-        frames: options.frames,
-        all_threads: options.all_threads,
-        lists: options.lists,
-        modules: options.modules,
-        handles: options.handles,
-        environment: options.environment,
-    }
-}
-
-// Returns how much of it its JSON has.
-fn json_limits(limits: &TextLimits) -> JsonLimits
-    ensures { result ≡ json_limits limits.now }
-{
-    JsonLimits {
-        frames: limits.frames,
-        environment: limits.environment,
     }
 }
 

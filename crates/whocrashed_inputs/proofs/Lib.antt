@@ -1,4 +1,3 @@
-mod NumberLemmas
 -- (cited by `whocrashed`)
 pub mod SymbolLemmas
 mod Utf8Lemmas

@@ -1,14 +1,15 @@
 -- What is known of the symbol files of modules, with one more that was looked for.
-use Rattle.std.proofs.Common.{◌≡◌, ◌≢◌, ◌∷◌, [], ap, arith, false, ℕ, zero, suc, length, List, map, refl, replicate, true, Some, None, Option}
+use Rattle.std.proofs.Common.{◌≡◌, ◌≢◌, ◌∷◌, [], arith, ℕ, zero, suc, length, List, map, refl, replicate, true, Some, None}
 use Rattle.std.specs.Borrow.{Bor}
 use Rattle.std.specs.Prelude.{IfOk, is_some, slice_get, Result, Ok, Err}
 use Rattle.std.specs.List.{AllZip, slice_set}
 use Rattle.std.proofs.lemmas.List.{map-set}
+use lib.LanesLaws.{map-replicate}
 use Rattle.std.proofs.lemmas.Option.{same_Some}
-use Rattle.breakpad_symbols.specs.SymbolFile.{SymbolsValue, symbols_of}
+use Rattle.breakpad_symbols.specs.SymbolFile.{symbols_of}
 use Rattle.breakpad_symbols.specs.declared.symbol_file.SymbolFile.{SymbolFile}
-use Rattle.crash_streams.specs.Modules.{LoadedValue, loaded_of}
-use Rattle.crash_streams.specs.declared.modules.CrashModule.{CrashModule}
+use Rattle.crash_process.specs.Modules.{LoadedValue, loaded_of}
+use Rattle.crash_process.specs.declared.modules.CrashModule.{CrashModule}
 use Rattle.crash_symbols.specs.Modules.{is_of_module}
 use Rattle.crash_symbols.specs.Symbols.{KnownSymbols, are_loaded}
 use Rattle.crash_symbols.specs.declared.symbols.SymbolState.{SymbolState}
@@ -69,15 +70,11 @@ none_belongs : (modules : List CrashModule) → AllZip Belongs (map loaded_of mo
 none_belongs [] = tt
 none_belongs (m ∷ modules) = (tt, none_belongs modules)
 
-none_loaded : (n : ℕ) → map are_loaded (replicate n Unwanted) ≡ map is_some (replicate {A = Option SymbolsValue} n None)
-unfolding are_loaded
-none_loaded zero = refl
-none_loaded (suc n) = ap (λ l. false ∷ l) (none_loaded n)
-
 -- where nothing is known, all is sound
 pub none_sound : (modules : List CrashModule) (known : KnownSymbols) → known.files ≡ replicate (length modules) None
     → known.states ≡ replicate (length modules) Unwanted → IsSound (map loaded_of modules) known
+unfolding are_loaded
 none_sound modules known files states = record {
   belong = rw files (none_belongs modules);
-  loaded = rw (files, states) (none_loaded (length modules));
+  loaded = rw (files, states, map-replicate, map-replicate) refl;
 }

@@ -9,7 +9,7 @@ use Rattle.std.specs.declared.io.ErrorKind.{ErrorKind}
 use Rattle.std.specs.declared.io.ErrorKind.TheVariants as kind
 use Rattle.breakpad_symbols.specs.SymbolFile.{SymbolsValue, symbols_of}
 use Rattle.breakpad_symbols.specs.declared.symbol_file.SymbolFile.{SymbolFile}
-use Rattle.crash_streams.specs.Modules.{LoadedValue}
+use Rattle.crash_process.specs.Modules.{LoadedValue}
 use Rattle.crash_symbols.specs.Modules.{is_of_module}
 use Rattle.crash_symbols.specs.Symbols.{KnownSymbols, are_loaded}
 use Rattle.crash_symbols.specs.declared.symbols.SymbolState.{SymbolState}

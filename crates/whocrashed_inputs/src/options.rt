@@ -120,25 +120,13 @@ impl<'w> Options<'w> {
         ensures accepted { IfOk result (λ options. is_refused options.form options.frames
             (map (λ p. p.now) options.dumps.items) options.are_listed ≡ false) }
     {
-        read_by(alloc, &mut command(alloc)?, words)
-    }
-}
-
-// Reads the arguments by the command.
-fn read_by<'w>(
-    alloc: Global,
-    command: &mut Command<'w>,
-    words: &'w [String],
-) -> Result<Options<'w>, Error>
-    ensures asked { IfOk result (λ options. AreAskedFor command.old words.entry.now options) }
-    ensures accepted { IfOk result (λ options. is_refused options.form options.frames
-        (map (λ p. p.now) options.dumps.items) options.are_listed ≡ false) }
-{
-    let matches = command.try_get_matches_from_mut(words)?;
-    let options = options_of(alloc, &matches)?;
-    match refusal(&options) {
-        Some((kind, why)) => Err(command.error(kind, why)?),
-        None => Ok(options),
+        let mut command = command(alloc)?;
+        let matches = command.try_get_matches_from_mut(words)?;
+        let options = options_of(alloc, &matches)?;
+        match refusal(&options) {
+            Some((kind, why)) => Err(command.error(kind, why)?),
+            None => Ok(options),
+        }
     }
 }
 
@@ -239,29 +227,22 @@ fn values_of<'w>(
 
 // Makes the command, which knows the options and the dumps.
 fn command<'w>(alloc: Global) -> Result<Command<'w>, AllocError> {
-    let arguments = arguments(alloc)?;
-    Command::new(alloc, "whocrashed")
+    let mut command = Command::new(alloc, "whocrashed")
         .no_binary_name(true)
         .version("0.27.0+rattle.1")
         .about(ABOUT)
-        .after_help(EXAMPLES)
-        .args(arguments)
-}
-
-// Makes the arguments of the command: the options, and then the dumps.
-fn arguments<'w>(alloc: Global) -> Result<Vec<Arg<'w>>, AllocError> {
-    let mut arguments = Vec::new(alloc);
+        .after_help(EXAMPLES);
     for (name, takes, help) in OPTIONS {
-        arguments.push(option(Arg::new(alloc, *name).long(*name).help(*help), takes)?)?;
+        command = command.arg(option(Arg::new(alloc, *name).long(*name).help(*help), takes)?)?;
     }
-    let dumps = Arg::new(alloc, "dumps")
-        .value_name("DUMP")
-        .help("A minidump, or - for the one on standard input")
-        .action(ArgAction::Append)
-        .num_args(1..)
-        .required_unless_present("stdin-paths")?;
-    arguments.push(dumps)?;
-    Ok(arguments)
+    command.arg(
+        Arg::new(alloc, "dumps")
+            .value_name("DUMP")
+            .help("A minidump, or - for the one on standard input")
+            .action(ArgAction::Append)
+            .num_args(1..)
+            .required_unless_present("stdin-paths")?,
+    )
 }
 
 // Makes an argument an option, by what stands behind it.

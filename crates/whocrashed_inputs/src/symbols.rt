@@ -2,7 +2,7 @@ ghost use Rattle.std.specs.Prelude.{◌≡◌, ◌<◌, ℕ, IfErr, IfOk, None, 
 ghost use Rattle.std.specs.Prelude.{slice_get, slice_index, true};
 ghost use Rattle.std.specs.List.{slice_set};
 ghost use Rattle.breakpad_symbols.specs.SymbolFile.{symbols_in, symbols_of};
-ghost use Rattle.crash_streams.specs.Modules.{LoadedValue, loaded_of};
+ghost use Rattle.crash_process.specs.Modules.{LoadedValue, loaded_of};
 ghost use Rattle.crash_symbols.specs.Modules.{is_of_module};
 ghost use Rattle.crash_symbols.specs.Symbols.{known_of};
 ghost use Rattle.whocrashed_inputs.specs.Symbols.{IsAsked, IsNoFile, IsSound, of_module, state_of_kind};
@@ -182,12 +182,10 @@ pub fn unknown(alloc: Global, modules: &[CrashModule]) -> Result<Symbols<'static
     ensures states { IfOk result (λ symbols. (known_of symbols).states
         ≡ replicate (length modules.now) SymbolState.Unwanted) }
 {
-    let mut symbols = Symbols::new(alloc);
-    for _ in modules {
-        symbols.files.push(None)?;
-        symbols.states.push(SymbolState::Unwanted)?;
-    }
-    Ok(symbols)
+    Ok(Symbols {
+        files: vec![in alloc; None; modules.len()]?,
+        states: vec![in alloc; SymbolState::Unwanted; modules.len()]?,
+    })
 }
 
 // Returns the state of a symbol file that was looked for.

@@ -5,14 +5,14 @@ use Rattle.minidump.specs.Below.Reasons.Names.{Lists}
 use Rattle.minidump.specs.Dump.{Dump}
 use Rattle.minidump.specs.DumpValue.{dump_of}
 use Rattle.crash.specs.declared.damage.Damage.{Damage}
-use Rattle.crash.specs.Cause.{CauseValue, cause_in, cause_of}
+use Rattle.crash_threads.specs.Cause.{CauseValue, cause_in, cause_of}
 use Rattle.crash_streams.specs.Contents.{ContentsValue, contents_of}
 use Rattle.crash.specs.Crash.{CrashValue, crash_by, damage_in}
-use Rattle.crash_streams.specs.Directory.{DirectoryValue, directory_in, directory_of}
-use Rattle.crash_streams.specs.Modules.{ModulesValue, modules_in, modules_of}
-use Rattle.crash.specs.Point.{PointValue, point_in, point_of}
-use Rattle.crash_streams.specs.Process.{ProcessFacts, process_in, process_of}
-use Rattle.crash.specs.Threads.{ThreadsValue, threads_in, threads_of}
+use Rattle.crash_process.specs.Directory.{DirectoryValue, directory_in, directory_of}
+use Rattle.crash_process.specs.Modules.{ModulesValue, modules_in, modules_of}
+use Rattle.crash_threads.specs.Point.{PointValue, point_in, point_of}
+use Rattle.crash_process.specs.Process.{ProcessFacts, process_in, process_of}
+use Rattle.crash_threads.specs.Threads.{ThreadsValue, threads_in, threads_of}
 use Rattle.crash.proofs.crash.crash_of_dump.Goals as goal
 
 parts_are_crash : (names : Lists) (scan : ℕ) (d : Dump) (c : ContentsValue) (directory : DirectoryValue) (process : ProcessFacts) (cause : CauseValue)

@@ -6,11 +6,11 @@ use Rattle.std.proofs.lemmas.Result.{IfOk-weaker}
 use Rattle.std.specs.List.{filter_map}
 use Rattle.minidump.specs.Below.Contexts.Context.{map_ok}
 use Rattle.minidump.specs.Promise.{exception_stream}
-use Rattle.crash.specs.Cause.{exception_of}
+use Rattle.crash_threads.specs.Cause.{exception_of}
 use Rattle.crash.specs.declared.damage.Damage.{Damage}
 use Rattle.crash.specs.Damage.{context_damage, exception_damage, exception_error, parameters_damage, stack_damage, stream_damage}
-use Rattle.crash.specs.Threads.{thread_value}
-use Rattle.crash_streams.proofs.Found.{found_in_values, values_before}
+use Rattle.crash_threads.specs.Threads.{thread_value}
+use Rattle.crash_process.proofs.Found.{found_in_values, values_before}
 use Rattle.crash.proofs.damage.damage_of.Goals as goal
 
 joined : {D : Type 0} (a b : List D) {c c' d d' e e' f f' g g' : List D} → c ≡ c' → d ≡ d' → e ≡ e' → f ≡ f' → g ≡ g'

@@ -1,31 +1,37 @@
 -- One frame more, and what is found at the end.
-use Rattle.std.proofs.Common.{◌≡◌, ◌≤◌, ◌+◌, arith, length, map, string_bytes}
-use Rattle.std.proofs.lemmas.List.{length-map}
-use Rattle.crash_streams.specs.Modules.{loaded_of}
+use Rattle.std.proofs.Common.{◌<◌, ◌+◌, List, append-nil, arith, drop, length, map, string_bytes}
+use Rattle.std.proofs.Math.Seq.{take-nil}
+use Rattle.std.proofs.lemmas.Grind.{common_steps}
+use Rattle.std.proofs.lemmas.List.{at_drop_more, drop_all, length-map, map-append}
+use Rattle.std.specs.List.{filter_map}
+use Rattle.std.specs.Option.{option_map}
+use Rattle.crash_process.specs.Modules.{loaded_of}
+use Rattle.crash_symbols.specs.declared.shown.ShownFrame.{ShownFrame}
 use Rattle.crash_symbols.specs.Shown.{shown_frame_of}
 use Rattle.crash_json.specs.Signature.{mark_of, marks_in}
-use Rattle.crash_json.proofs.SignatureLemmas.{few_found, next_found, one_more, three_found}
+use Rattle.crash_json.proofs.SignatureLemmas.{all_found, one_found}
+use Rattle.crash_json.proofs.signature.marks_in.Goals.{in-Some+in_ok-push, in_default}
 use Rattle.crash_json.proofs.signature.marks_in.Goals as goal
 
-pub returns-then-len-eq-FRAMES : goal.returns-then-len-eq-FRAMES
+pub returns-then-len-ge-FRAMES : goal.returns-then-len-ge-FRAMES
 unfolding marks_in
-returns-then-len-eq-FRAMES c =
+returns-then-len-ge-FRAMES c =
     let marks = c.loop-frame.marks.items in
-    let three : length (map string_bytes marks) ≡ 3 = omega (arith, length-map marks string_bytes, c.len.ensures, c.if-len-eq-FRAMES.true) in
-    three_found shown_frame_of (mark_of (map loaded_of c.args.modules.now)) c.args.frames.now c.loop-frame.frame-index (map string_bytes marks)
-    c.loop-frame.invariant.0 three
+    all_found 3 (map string_bytes marks) _ (omega (arith, length-map marks string_bytes, c.len.ensures, c.if-len-ge-FRAMES.true)) c.loop-frame.invariant
 
 pub loop-frame-preserved : goal.loop-frame-preserved
 loop-frame-preserved c =
-    let marks = c.loop-frame.marks.items in let more = map string_bytes c.push_mark.new.marks.items in
-    let few : length more ≤ length (map string_bytes marks) + 1 = one_more (map string_bytes marks) more _ c.in_ok-push_mark.ensures in (
-      next_found shown_frame_of (mark_of (map loaded_of c.args.modules.now)) c.args.frames.now c.loop-frame.frame-index _ (map string_bytes marks) more
-          c.loop-frame-test.true c.loop-frame.invariant.0 c.in_ok-push_mark.ensures,
-      omega (arith, few, length-map marks string_bytes, c.len.ensures, c.if-len-eq-FRAMES.false, c.loop-frame.invariant.1),
-    )
+    let marks = c.loop-frame.marks.items in let find = mark_of (map loaded_of c.args.modules.now) in
+    let below : length (map string_bytes marks) < 3 = omega (arith, length-map marks string_bytes, c.len.ensures, c.if-len-ge-FRAMES.false) in
+    let next =
+    at_drop_more (λ (frames : List ShownFrame). filter_map find (map shown_frame_of frames)) c.args.frames.now c.loop-frame.frame-index _ c.loop-frame-test.true in
+    let rest = filter_map find (map shown_frame_of (drop (c.loop-frame.frame-index + 1) c.args.frames.now)) in
+    let more = one_found 3 (map string_bytes marks) (map string_bytes c.match-branch-2.marks.items) rest (option_map string_bytes c.in_ok-mark.field-0) below in
+    elim c.match-branch-2.branch [
+      | in-Some+in_ok-push w ↦ more (grind (arith, common_steps, map-append)) (rw c.in_ok-mark.ensures (rw next at c.loop-frame.invariant))
+      | in_default w ↦ more (grind (arith, common_steps, append-nil)) (rw c.in_ok-mark.ensures (rw next at c.loop-frame.invariant))
+    ]
 
 pub returns : goal.returns
 unfolding marks_in
-returns c =
-    few_found shown_frame_of (mark_of (map loaded_of c.args.modules.now)) c.args.frames.now c.loop-frame.frame-index (map string_bytes c.loop-frame.marks.items)
-    c.loop-frame-test.false c.loop-frame.invariant.0 c.loop-frame.invariant.1
+returns c = rw (drop_all c.loop-frame.frame-index c.args.frames.now c.loop-frame-test.false, take-nil, append-nil) at c.loop-frame.invariant

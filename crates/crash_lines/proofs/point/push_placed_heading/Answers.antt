@@ -1,9 +1,14 @@
 -- The values of the registers are asked.
-use Rattle.std.proofs.Common.{append-nil, string_bytes, sym, List, ℕ}
-use Rattle.crash.specs.declared.addresses.AddressFacts.{AddressFacts}
-use Rattle.crash.specs.Addresses.{is_placed}
-use Rattle.crash_lines.proofs.FrameLemmas.{any_value}
+use Rattle.std.proofs.Common.{◌≡◌, ◌||◌, [], ◌∷◌, ℕ, Bool, List, ap, append-nil, map, refl, string_bytes, sym}
+use Rattle.std.specs.List.{list_any}
+use Rattle.crash_threads.specs.declared.addresses.AddressFacts.{AddressFacts}
+use Rattle.crash_threads.specs.Addresses.{is_placed}
 use Rattle.crash_lines.proofs.point.push_placed_heading.Goals as goal
+
+-- one of the values has a property where one of the items has it by its value
+any_value : {X Y : Type 0} (value : X → Y) (p : Y → Bool) (xs : List X) → list_any p (map value xs) ≡ list_any (λ x. p (value x)) xs
+any_value value p [] = refl
+any_value value p (x ∷ xs) = ap (λ b. p (value x) || b) (any_value value p xs)
 
 pub returns-then-has_placed : goal.returns-then-has_placed
 returns-then-has_placed c =

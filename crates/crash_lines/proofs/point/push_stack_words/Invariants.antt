@@ -1,7 +1,7 @@
 -- The lines so far.
 use Rattle.std.proofs.Common.{◌≡◌, ◌++◌, map, string_bytes, take}
 use Rattle.std.specs.List.{flat_map}
-use Rattle.crash_streams.specs.Modules.{loaded_of}
+use Rattle.crash_process.specs.Modules.{loaded_of}
 use Rattle.crash_lines.specs.Lines.{line_of}
 use Rattle.crash_lines.specs.Point.{word_line}
 use Rattle.crash_lines.proofs.point.push_stack_words.Given as goal

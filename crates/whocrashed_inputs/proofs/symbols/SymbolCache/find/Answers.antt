@@ -4,7 +4,7 @@ use Rattle.std.proofs.lemmas.List.{map-set}
 use Rattle.std.specs.List.{slice_set}
 use Rattle.std.specs.Prelude.{slice_index}
 use borrow.Author.Count.{below_more}
-use Rattle.crash_streams.specs.Modules.{loaded_of}
+use Rattle.crash_process.specs.Modules.{loaded_of}
 use Rattle.crash_symbols.specs.Symbols.{known_of}
 use Rattle.crash_symbols.specs.declared.symbols.Symbols.{Symbols}
 use Rattle.whocrashed_inputs.proofs.SymbolLemmas.{asked_with, sound_with}

@@ -1,7 +1,7 @@
 -- What is known is as sound as it was, no module so far is unwanted, and the cache looks where it did.
 use Rattle.std.proofs.Common.{◌≡◌, ◌<◌, ℕ, map}
 use Rattle.std.specs.Prelude.{slice_index}
-use Rattle.crash_streams.specs.Modules.{loaded_of}
+use Rattle.crash_process.specs.Modules.{loaded_of}
 use Rattle.crash_symbols.specs.Symbols.{known_of}
 use Rattle.whocrashed_inputs.specs.Symbols.{IsAsked, IsSound}
 use Rattle.whocrashed_inputs.proofs.symbols.SymbolCache.find.Given as goal

@@ -1,0 +1,42 @@
+-- The kinds of the handles of a process, by the names of their types.
+use Rattle.std.specs.Prelude.{ℕ, Bool, false, List, [], bytes_eq, count_by, map, Result, Ok, Err}
+use Rattle.std.specs.Prelude.{string_bytes}
+use Rattle.std.specs.Cmp.Lexicographic.{slice_cmp}
+use Rattle.std.specs.FinMap.{entries, from_entries}
+use Rattle.std.specs.List.{filter_map}
+use Rattle.std.specs.Option.{option_map_or}
+use Rattle.std.specs.Ordering.{nat_cmp}
+use Rattle.minidump.specs.declared.Error.{Error}
+use Rattle.minidump.specs.Below.Records.Handles.{Handle}
+use Rattle.crash_process.specs.declared.handle_kinds.HandleKind.{HandleKind}
+
+-- a kind: the name of a type, and how many handles have it
+pub record KindValue : Type 0 where
+  pub type_name : List ℕ
+  pub count : ℕ
+
+-- the same of a `HandleKind`
+abbrev pub kind_of : HandleKind → KindValue
+kind_of k = record { type_name = string_bytes k.type_name; count = k.count }
+
+-- the type of a handle has a name
+abbrev pub has_type : List ℕ → Handle → Bool
+has_type name h = option_map_or (bytes_eq name) h.type_name false
+
+-- each name of a type with the number of handles that have it
+abbrev pub counts : List Handle → List (List ℕ × ℕ)
+counts handles = map (λ name. (name, count_by (has_type name) handles))
+    (filter_map (λ h. h.type_name) handles)
+
+-- the same once for each name, ascending by their bytes: the entries of a finite map
+unfoldable pub tally : List Handle → List (List ℕ × ℕ)
+tally handles = entries (from_entries {R = slice_cmp nat_cmp} (counts handles))
+
+-- the kind of a name and its number
+abbrev pub kind_by : List ℕ × ℕ → KindValue
+kind_by p = record { type_name = p.0; count = p.1 }
+
+-- the kinds of handles: none where their stream can't be read
+abbrev pub kinds_in : Result (List Handle) Error → List KindValue
+kinds_in (Ok handles) = map kind_by (tally handles)
+kinds_in (Err e) = []

@@ -1,0 +1,10 @@
+-- The definitions that the contracts cite.
+pub mod FileName
+pub mod Missing
+pub mod Directory
+pub mod Release
+pub mod ProcessTexts
+pub mod HandleKinds
+pub mod Linux
+pub mod Process
+pub mod Modules

@@ -1,8 +1,0 @@
--- The kinds so far, and those of the entries that are left, are all.
-use Rattle.std.proofs.Common.{◌≡◌, ◌++◌, map}
-use Rattle.crash_streams.specs.HandleKinds.{kind_by, kind_of}
-use Rattle.crash_streams.proofs.handle_kinds.kinds_of_table.Given as goal
-
-abbrev pub invariant-loop-name : goal.invariant-loop-name
-invariant-loop-name l = map kind_of l.kinds.items ++ map kind_by (map (λ e. (e.0.now, e.1)) l.name-iterator)
-    ≡ map kind_by (map (λ e. (e.0.now, e.1)) l.table.entries)

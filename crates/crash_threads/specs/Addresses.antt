@@ -1,0 +1,121 @@
+-- What is known of an address: where it lies among the modules, the stacks and the regions.
+use Rattle.std.specs.Prelude.{ℕ, ◌-◌, ◌^◌, ◌==◌, ◌&&◌, ◌||◌, nat_le, nat_lt, Bool, true, false, List, []}
+use Rattle.std.specs.Prelude.{Option, Some, None, is_some, unwrap_or, if◌then◌else◌}
+use Rattle.std.specs.Option.{option_map, option_map_or}
+use Rattle.std.specs.Result.{result_ok}
+use Rattle.minidump.specs.declared.system_info.Cpu.{Cpu}
+use Rattle.minidump.specs.declared.system_info.Cpu.TheVariants.{X86_64}
+use Rattle.minidump.specs.Below.Format.Flags.{has_flag}
+use Rattle.minidump.specs.Below.Index.Lookup.{has_address, looked_up}
+use Rattle.minidump.specs.Below.MemoryLists.UnifiedInfo.{InfoRegion, OfInfo, OfMaps, info_regions}
+use Rattle.minidump.specs.Below.MemoryLists.UnifiedInfo.{range_of_info_region, region_is_executable}
+use Rattle.minidump.specs.Below.MemoryLists.UnifiedInfo.{region_is_readable, region_is_writable}
+use Rattle.minidump.specs.Below.Modules.UnloadedModule.{UnloadedValue, range_of_unloaded}
+use Rattle.minidump.specs.Below.System.System.{System}
+use Rattle.minidump.specs.Thread.{Thread}
+use Rattle.stack_walk.specs.Lookups.{is_code, module_place}
+use Rattle.crash_threads.specs.declared.addresses.AddressFacts.{AddressFacts}
+use Rattle.crash_threads.specs.declared.addresses.AddressMemory.{AddressMemory}
+use Rattle.crash_threads.specs.declared.addresses.RegionState.{RegionState}
+use Rattle.crash_threads.specs.declared.addresses.RegionState.TheVariants.{Committed, Free, Reserved}
+use Rattle.crash_threads.specs.declared.stacks.StackRange.{StackRange}
+use Rattle.crash_streams.specs.Contents.{ContentsValue}
+use Rattle.crash_threads.specs.Contexts.{system_of}
+use Rattle.crash_threads.specs.Last.{last_index}
+use Rattle.crash_threads.specs.Stacks.{named_stack}
+
+-- the address, where it is in the 64 KiB from 0 on, which Windows doesn't map, nor Linux by default but on
+-- ARM
+abbrev pub null_offset : ℕ → Option ℕ
+null_offset address = if nat_lt address 0x1_0000 then Some address else None
+
+-- bits 47 to 63 of an address of x86-64 are alike, with 48-bit addresses: 57-bit addresses are not told apart. Other
+-- processors have no such rule here
+abbrev pub canonical_on : Cpu → ℕ → Bool
+canonical_on X86_64 address = nat_lt address (2 ^ 47) || nat_le (2 ^ 64 - 2 ^ 47) address
+canonical_on _ address = true
+
+-- the same where the system is known
+abbrev pub is_canonical : Option System → ℕ → Bool
+is_canonical system address = option_map_or (λ s. canonical_on s.cpu address) system true
+
+-- the index of the last unloaded module that contains an address
+abbrev pub unloaded_at : List UnloadedValue → ℕ → Option ℕ
+unloaded_at modules address = last_index (has_address range_of_unloaded address) modules
+
+-- ---- stacks
+
+-- a stack, as a thread names it, contains an address
+abbrev pub has_stack : ℕ → Option StackRange → Bool
+has_stack address (Some s) = nat_le s.base address && nat_lt (address - s.base) s.size
+has_stack address None = false
+
+-- a stack begins above an address, by at most a page of 4,096 bytes
+abbrev pub is_below_stack : ℕ → Option StackRange → Bool
+is_below_stack address (Some s) = nat_lt address s.base && nat_le (s.base - address) 4096
+is_below_stack address None = false
+
+-- the index of the last thread whose stack contains an address, and that of the last whose stack
+-- begins that much above it
+abbrev pub stack_at : List Thread → ℕ → Option ℕ
+stack_at threads address = last_index (λ t. has_stack address (named_stack t.raw.stack)) threads
+
+abbrev pub stack_above : List Thread → ℕ → Option ℕ
+stack_above threads address =
+    last_index (λ t. is_below_stack address (named_stack t.raw.stack)) threads
+
+-- ---- memory
+
+-- a state by its number: winnt.h's MEM_FREE and MEM_RESERVE, and committed with any other, as
+-- MEM_COMMIT
+abbrev pub state_of_number : ℕ → RegionState
+state_of_number n = if n == 0x1_0000 then Free else (if n == 0x2000 then Reserved else Committed)
+
+-- the state of a region: that of its number, and committed as a line of the maps
+abbrev pub state_of : InfoRegion → RegionState
+state_of (OfInfo m) = state_of_number m.raw.state
+state_of (OfMaps m) = Committed
+
+-- a region is guarded: winnt.h's PAGE_GUARD
+abbrev pub is_guarded : InfoRegion → Bool
+is_guarded (OfInfo m) = has_flag m.protection 0x100
+is_guarded (OfMaps m) = false
+
+-- what is known of the memory of a region
+abbrev pub memory_of : InfoRegion → AddressMemory
+memory_of region = record {
+  state = state_of region;
+  is_readable = region_is_readable region;
+  is_writable = region_is_writable region;
+  is_executable = region_is_executable region;
+  is_guarded = is_guarded region;
+}
+
+-- the same of the kept region that contains an address
+abbrev pub memory_at : ContentsValue → ℕ → Option AddressMemory
+memory_at c address = option_map memory_of
+    (looked_up range_of_info_region (info_regions c.space.infos) address)
+
+-- code may be at an address: a module contains it, or memory that is known to be executable
+abbrev pub has_code : ContentsValue → ℕ → Bool
+has_code c address = is_code c.space.modules address
+    || option_map_or (λ m. m.is_executable) (memory_at c address) false
+
+-- ---- all of it
+
+-- an address lies in a module, an unloaded module, or the stack of a thread
+abbrev pub is_placed : AddressFacts → Bool
+is_placed f = is_some f.«module» || is_some f.unloaded || is_some f.stack_of
+
+-- what is known of an address
+abbrev pub facts_of : ContentsValue → ℕ → AddressFacts
+facts_of c address = record {
+  address = address;
+  null_offset = null_offset address;
+  is_canonical = is_canonical (system_of c) address;
+  «module» = module_place c.space.modules address;
+  unloaded = unloaded_at (unwrap_or (result_ok c.space.unloaded) []) address;
+  stack_of = stack_at (unwrap_or (result_ok c.threads.threads) []) address;
+  below_stack = stack_above (unwrap_or (result_ok c.threads.threads) []) address;
+  memory = memory_at c address;
+}

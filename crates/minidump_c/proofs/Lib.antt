@@ -1,3 +1,0 @@
--- Lemmas of the report and of rows.
-pub mod ReportLemmas
-pub mod RowLemmas
