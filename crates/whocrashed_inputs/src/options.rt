@@ -120,13 +120,25 @@ impl<'w> Options<'w> {
         ensures accepted { IfOk result (λ options. is_refused options.form options.frames
             (map (λ p. p.now) options.dumps.items) options.are_listed ≡ false) }
     {
-        let mut command = command(alloc)?;
-        let matches = command.try_get_matches_from_mut(words)?;
-        let options = options_of(alloc, &matches)?;
-        match refusal(&options) {
-            Some((kind, why)) => Err(command.error(kind, why)?),
-            None => Ok(options),
-        }
+        read_by(alloc, &mut command(alloc)?, words)
+    }
+}
+
+// Reads the arguments by the command.
+fn read_by<'w>(
+    alloc: Global,
+    command: &mut Command<'w>,
+    words: &'w [String],
+) -> Result<Options<'w>, Error>
+    ensures asked { IfOk result (λ options. AreAskedFor command.old words.entry.now options) }
+    ensures accepted { IfOk result (λ options. is_refused options.form options.frames
+        (map (λ p. p.now) options.dumps.items) options.are_listed ≡ false) }
+{
+    let matches = command.try_get_matches_from_mut(words)?;
+    let options = options_of(alloc, &matches)?;
+    match refusal(&options) {
+        Some((kind, why)) => Err(command.error(kind, why)?),
+        None => Ok(options),
     }
 }
 
