@@ -63,7 +63,7 @@ sender_json s = object_of (
     ∷ (codes "code", string (signal_code_name s.code))
     ∷ [])
 
--- an exception: what is said of it, with nothing of what can't be read, and then the name of the error
+-- an exception: what its record says, and null for the error; or null for each, and the name of the error
 unfoldable pub exception_json : Result ExceptionValue Error → Json
 exception_json read = let e = result_ok read in object_of (
     (codes "thread_id", or_null (λ e. count e.thread) e)

@@ -76,7 +76,8 @@ fn expression_of(
 
 // ---- exceptions
 
-// An exception, or why it can't be read.
+// An exception, or why it can't be read: not by the impl of any `Result`, since an exception has no
+// value of its own.
 impl ToJson for Result<CrashException, Error> {
     ghost json = { λ e. exception_json (map_ok exception_of e) };
 

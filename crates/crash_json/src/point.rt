@@ -38,7 +38,7 @@ impl ToJson for StackWord {
     }
 }
 
-// Registers or flags, each by its name.
+// Registers or flags, each by its name: an object, and not the array of the impl of any `Vec`.
 impl ToJson for Vec<(&'static str, u64)> {
     ghost json = { λ named. named_json (map (λ r. (r.0.now, r.1)) named.items) };
 

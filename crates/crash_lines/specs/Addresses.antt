@@ -19,7 +19,7 @@ unloaded_path c index =
 abbrev pub thread_id : CrashValue → Option ℕ → Option ℕ
 thread_id c index = option_map (λ t. t.id) (option_and_then (slice_get c.threads.threads) index)
 
--- the rights of memory, and a dash for each that is absent
+-- a letter for each right of memory, a dash for each that is absent, and whether it is guarded
 abbrev pub rights_words : AddressMemory → List ℕ
 rights_words m = concat (codes ", memory " ∷ words_or m.is_readable (codes "r") (codes "-")
     ∷ words_or m.is_writable (codes "w") (codes "-")

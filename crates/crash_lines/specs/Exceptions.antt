@@ -28,7 +28,8 @@ cause_lines e = table (
     ∷ (text_if (codes "description ") e.description [] ∷ [])
     ∷ [])
 
--- the crash, by the exception that counts: the thread that crashed, its address, and the rest
+-- the crash, by the exception that counts: the thread that crashed, the address of the crash, the
+-- reason with the record, the registers, and where that thread stands
 unfoldable pub counted_lines : CrashValue → ExceptionValue → List (List ℕ)
 counted_lines c e = concat (codes "crashed thread " ∷ id_words e.thread ∷ [])
     ∷ (if_some (λ a. address_line c [] (codes "address") [] a ∷ []) c.cause.address

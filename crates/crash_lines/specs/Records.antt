@@ -50,8 +50,8 @@ record_words e flags parameters = hex_unless 0 (codes ", flags ") (Some flags)
     ++ (hex_unless 0 (codes ", nested record at ") (Some e.nested)
     ++ (access_words e.access ++ (sender_words e.sender ++ parameters_words parameters)))
 
--- all of it. LLDB's description of an exception is written over its parameters, by a mark in its
--- flags: neither is printed as numbers then
+-- what the record says beside its code. Where LLDB describes the exception, its text stands over the
+-- parameters and its mark in the flags, so that neither is printed as a number
 abbrev pub record_text : ExceptionValue → List ℕ
 record_text e = if is_some e.description then record_words e 0 []
     else record_words e e.flags e.parameters

@@ -210,6 +210,13 @@ fn push_id(out: &mut String, words: &str, id: u32) -> Added
 
 // ---- texts
 
+// Returns words if something is so, or else the others.
+fn words_or<'x>(is_so: bool, words: &'x str, others: &'x str) -> &'x str
+    ensures { result.now ≡ words_or is_so words.now others.now }
+{
+    if is_so { words } else { others }
+}
+
 // Appends a text after words, unless it is empty.
 fn push_after(out: &mut String, words: &str, text: &str) -> Added
     ensures { OnOk result
@@ -270,13 +277,6 @@ fn push_memory(out: &mut String, memory: Option<AddressMemory>) -> Added
         },
         None => Ok(()),
     }
-}
-
-// Returns words if something is so, or else the others.
-fn words_or<'x>(is_so: bool, words: &'x str, others: &'x str) -> &'x str
-    ensures { result.now ≡ words_or is_so words.now others.now }
-{
-    if is_so { words } else { others }
 }
 
 // ---- lists

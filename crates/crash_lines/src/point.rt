@@ -70,8 +70,8 @@ fn thread_id(crash: &Crash<'_>, index: Option<usize>) -> Option<u32>
 
 // ---- the registers
 
-// Appends that the context of an exception is no context of the processor, if it isn't and has
-// bytes, and the registers of the thread that crashed: nothing without the system.
+// Appends why the context of an exception isn't used, where it has bytes but is no context of the
+// processor, and then the registers of the thread that crashed; nothing without the system.
 #[rattlefmt::skip]
 #[tactic(auto, unfolding(crate::specs::Registers::unused_lines))]
 pub(crate) fn push_registers(

@@ -103,7 +103,7 @@ each_other p threads = flat_map (λ t. other_lines p t.0 t.1) (enumerate_from 0 
 
 -- ---- all frames that are printed
 
--- those of the walk of a thread with an index, if there is one
+-- those of a thread with an index: none if it has no walk
 abbrev pub frames_at : PageValue → ℕ → ThreadValue → List CrashFrame
 frames_at p number t = option_map_or (λ w. map (λ f. f.frame) (printed_frames p.limits
     (is_index p.crash.threads.crashing number || shows_all p.limits p.crash.threads.crashing) w))

@@ -22,8 +22,8 @@ problem_number Outside = 1
 problem_number NoSystem = 2
 problem_number (NotAccepted size) = 3
 
--- the numbers of the exception that counts: zeros if there is none. Its parameters as far as 15 fit,
--- with zeros after them
+-- the numbers of the exception that counts, zeros if there is none. Of its parameters 15 fit; zeros
+-- follow them
 abbrev pub exception_row : Option ExceptionValue → ExceptionRow
 exception_row given = let sender = option_and_then (λ e. e.sender) given in record {
   address = option_map_or (λ e. e.at) given 0;

@@ -14,8 +14,8 @@ use Rattle.minidump_c.specs.Spans.{bit, flag, span_after, text_in}
 abbrev pub register_row : List ℕ → List ℕ × ℕ → RegisterRow × List ℕ
 register_row before r = (record { value = r.1; name = span_after before r.0 }, before ++ r.0)
 
--- a thread: 0 for the stack of one without a stack, for the frames of one without a walk, and for the
--- sizes of a context that is whole
+-- a thread: 0 for the stack of one without a stack, for the frames and candidates of one without a walk,
+-- and for the sizes of a context that is whole
 abbrev pub thread_row : List ℕ → ThreadValue → ThreadRow × List ℕ
 thread_row before t = (
   record {

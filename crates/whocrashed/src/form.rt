@@ -71,7 +71,7 @@ impl Reporter<'_, '_, '_> {
     {
         let alloc = self.rt.alloc();
         let options = self.options;
-        let text = TextLimits {
+        let text_limits = TextLimits {
             frames: options.frames,
             all_threads: options.all_threads,
             lists: options.lists,
@@ -79,15 +79,15 @@ impl Reporter<'_, '_, '_> {
             handles: options.handles,
             environment: options.environment,
         };
-        let limits = JsonLimits {
-            frames: text.frames,
-            environment: text.environment,
+        let json_limits = JsonLimits {
+            frames: options.frames,
+            environment: options.environment,
         };
         match options.form {
-            Form::Lines => Ok(text_of(alloc, crash, &text, symbols)?.into_bytes()),
-            Form::Json => end_line(json_of(alloc, Some(path), crash, &limits, symbols)?),
+            Form::Lines => Ok(text_of(alloc, crash, &text_limits, symbols)?.into_bytes()),
+            Form::Json => end_line(json_of(alloc, Some(path), crash, &json_limits, symbols)?),
             Form::Html => {
-                let json = json_of(alloc, Some(path), crash, &limits, symbols)?;
+                let json = json_of(alloc, Some(path), crash, &json_limits, symbols)?;
                 let json = str::from_utf8(&json).unwrap_or("null");
                 Ok(crash_html::page(alloc, json)?.into_bytes())
             }
