@@ -83,7 +83,7 @@ fn named_rows(alloc: Global, bytes: &[u8], names: &[u8], scan: usize) -> Result<
     let crash = Crash::read(alloc, bytes, &lists.code_names(), scan)?;
     let rows = rows_of(alloc, &crash);
     crash.close();
-    // (an `AllocError` is `OutOfMemory` by way of `Error`)
+    // (want of memory is told as the dump's error here, and not as that of the names)
     Ok(rows.map_err(Error::from)?)
 }
 
