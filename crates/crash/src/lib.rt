@@ -47,7 +47,7 @@ pub use crash_streams::{
 pub use crash_threads::{
     AddressFacts, AddressMemory, ContextOrigin, ContextProblem, CrashCause, CrashContext,
     CrashException, CrashFrame, CrashPoint, CrashThread, CrashThreads, CrashWalk, RegionState,
-    ShortContext, StackRange, StackWord, frame_in,
+    ShortContext, StackRange, StackWord, frame_in, unaccepted_size,
 };
 pub use damage::Damage;
 

@@ -8,7 +8,7 @@ pub(crate) const HEAD: &str = r##"<!DOCTYPE html>
 <meta charset="utf-8">
 <meta http-equiv="Content-Security-Policy" content="default-src 'none'; base-uri 'none'; form-action 'none';
  script-src 'sha256-r1f57gpW1BgiuFOH8WpJ9rNPBkxsYQVQ1AYV1wHm0F4=' 'sha256-bdco4xR7Ic9d5+GvPn0ywi7wNf77G6HsMmvD8c368qY='
- 'sha256-kEMmXvcYCOjN+KNaYHj0aQx6nc1aEBSUbg4BsUJmsbE=';
+ 'sha256-p5TDg3GyUuUx7FA5adcknXI+1rpGyjTuxspBPzxr1fM=';
  style-src 'sha256-nS0B97NHYua8LfyB+0du0UNqCVg+2wVYGdZrz3ew5fk=' 'sha256-sPHmrOm/UuubxpQb78f/WQ8zZl3stHOYMbsktkrfNJQ='">
 <meta name="viewport" content="width=device-width, initial-scale=1">
 <title>Crash</title>

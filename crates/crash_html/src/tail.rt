@@ -281,6 +281,12 @@ function senderWords(exception) {
   return joined([process, labelled("user ", part(sender, "user_id")), part(sender, "code")], ", ");
 }
 
+// Returns why the context of an exception or a thread isn't used, with its size where that is said, or null.
+function problemWords(of) {
+  const size = part(of, "context_size");
+  return joined([part(of, "context_problem"), size === null ? null : size + " bytes"], ", ") || null;
+}
+
 function parametersOf(exception) {
   return list(part(exception, "parameters")).join(", ");
 }
@@ -349,7 +355,7 @@ function crashFacts() {
     ["Instruction pointer", addressWords(instructionPointer(), part(point, "instruction"))],
     ["Bytes there", list(part(point, "code")).map((byte) => Number(byte).toString(16).padStart(2, "0")).join(" ")],
     ["Registers", labelled("of the context of the ", part(minidump, "registers_of"))],
-    ["Exception\u2019s context", labelled("not used: ", part(counting, "context_problem"))],
+    ["Exception\u2019s context", labelled("not used: ", problemWords(counting))],
   ];
 }
 
@@ -389,6 +395,7 @@ function systemFacts() {
     ["Crashpad\u2019s client", part(part(minidump, "crashpad"), "client_id")],
     ["Soft errors", softErrors()],
     ["Lines of the memory map", part(crash, "linux_memory_map_count")],
+    ["Environment variables", part(minidump, "environment_count")],
     ["Status", joined([part(crash, "status"), labelled("exit status ", part(minidump, "status"))], ", ")],
   ];
 }
@@ -407,7 +414,7 @@ function addThreadFacts(place, of) {
   const words = joined([
     part(of, "is_listed") === false ? "not in the list of threads" : null,
     labelled("last error ", part(of, "last_error_value")),
-    labelled("its own context: ", part(of, "context_problem")),
+    labelled("its own context: ", problemWords(of)),
     shortWords(part(of, "short_context")),
     labelled("stack ", stack),
     memory === stack ? null : labelled("stack memory ", memory),
@@ -519,7 +526,8 @@ function addThreads() {
 
 // Returns words for what is known of the symbols of a module.
 function symbolWords(module) {
-  const states = [["loaded_symbols", "loaded"], ["missing_symbols", "missing"], ["corrupt_symbols", "corrupt"]];
+  const states = [["loaded_symbols", "loaded"], ["missing_symbols", "missing"], ["corrupt_symbols", "corrupt"],
+    ["no_memory_for_symbols", "no memory for them"]];
   return joined(states.map(([name, words]) => (part(module, name) === true ? words : null)), ", ");
 }
 
@@ -570,10 +578,13 @@ function annotationsOf() {
 }
 
 function addExceptions() {
-  const names = ["thread_id", "code", "flags", "exception_address", "nested", "access", "address", "type", "description", "context_problem", "error"];
-  const rows = rowsOf(exceptions, names).map((row, i) => [exceptions[i] === counting ? "counts" : "", ...row, parametersOf(exceptions[i]), senderWords(exceptions[i])]);
+  const names = ["thread_id", "code", "flags", "exception_address", "nested", "access", "address", "type", "description", "error"];
+  const rows = rowsOf(exceptions, names).map((row, i) => {
+    const one = exceptions[i];
+    return [one === counting ? "counts" : "", ...row, problemWords(one), parametersOf(one), senderWords(one)];
+  });
   addMore("Exceptions", [["Counts", ""], ["Thread", ""], ["Code", "code"], ["Flags", "code"], ["At", "code"], ["Nested record", "code"], ["Access", ""],
-    ["Address", "code"], ["Reason", ""], ["Description", ""], ["Context", ""], ["Error", ""], ["Parameters", ""], ["Sent by", ""]], rows);
+    ["Address", "code"], ["Reason", ""], ["Description", ""], ["Error", ""], ["Context", ""], ["Parameters", ""], ["Sent by", ""]], rows);
 }
 
 function addLists() {
@@ -602,11 +613,11 @@ const KNOWN = {
   system_info: "os os_ver cpu_arch cpu_info cpu_count cpu_microcode_version",
   crash_info: "type address crashing_thread assertion",
   minidump: "written uptime status streams memory damage address exceptions exception registers_of assertion crashpad signature "
-    + "command_line comment wide_comment point environment parent_process_id resident_size requesting_thread_id "
+    + "command_line comment wide_comment point environment environment_count parent_process_id resident_size requesting_thread_id "
     + "dump_thread_id handle_kinds unreadable_modules",
   "minidump.point": "instruction registers code words flags set_flags",
   "minidump.address": "address module module_offset null_offset is_canonical unloaded_module stack_of below_stack memory",
-  crashing_thread: "threads_index thread_id thread_name is_listed last_error_value stack stack_memory context_problem short_context frame_count "
+  crashing_thread: "threads_index thread_id thread_name is_listed last_error_value stack stack_memory context_problem context_size short_context frame_count "
     + "candidate_count end frames",
   mac_crash_info: "num_records records",
   proc_limits: "limits",

@@ -33,7 +33,7 @@ use Rattle.crash_json.specs.Point.{point_json, register_json, word_json}
 use Rattle.crash_json.specs.Records.{assertion_json, boot_args_json, handle_json, kind_json, mac_crash_json, mac_record_json, soft_depth, soft_json}
 use Rattle.crash_json.specs.ReportValue.{ReportValue}
 use Rattle.crash_json.specs.Report.{error_json, json_of, line_json, path_members, pid_members, stream_members, system_members}
-use Rattle.crash_json.specs.System.{environment_json, limit_json, limits_json, release_json, system_json, variable_json}
+use Rattle.crash_json.specs.System.{environment_members, limit_json, limits_json, release_json, system_json, variable_json}
 use Rattle.crash_json.specs.Threads.{crashing_json, index_members, range_json, short_json, thread_json, thread_members, threads_json}
 
 -- ---- modules and threads
@@ -98,11 +98,11 @@ crashpad_depth c =
           )),
     )
 
-environment_depth : (is_asked : Bool) (text : Result (List ℕ) Error) → depth (environment_json is_asked text) ≤ 2
+environment_depth : (is_asked : Bool) (text : Result (List ℕ) Error) → members_depth (members_of (environment_members is_asked text)) ≤ 2
 unfolding entry_json
-environment_depth true (Ok text) = array_within variable_json 1 (λ p. omega arith) (pairs_of 0x3d text)
-environment_depth true (Err e) = omega arith
-environment_depth false text = omega arith
+environment_depth true (Ok text) = omega (arith, array_within variable_json 1 (λ p. omega arith) (pairs_of 0x3d text))
+environment_depth false (Ok text) = omega arith
+environment_depth is_asked (Err e) = omega arith
 
 -- ---- what the schema has no member for
 
@@ -136,7 +136,7 @@ point_depth p =
 
 process_depth : (environment : Bool) (c : CrashValue) → members_depth (members_of (process_members environment c)) ≤ 5
 unfolding process_members
-process_depth environment c = omega (arith, flat, environment_depth)
+process_depth environment c = omega (arith, flat, both_within, environment_depth)
 
 file_depth : (c : CrashValue) → members_depth (members_of (file_members c)) ≤ 5
 unfolding file_members stream_json region_json unreadable_json

@@ -1,5 +1,4 @@
--- Lemmas on tokens, on how deep the values nest, and on lists of values.
+-- Lemmas on tokens, and on how deep the values nest.
 pub mod Depth
 pub mod Tokens
 pub mod TreeDepth
-pub mod SignatureLemmas

@@ -17,6 +17,7 @@ use Rattle.crash_streams.specs.declared.records.Access.{Access}
 use Rattle.crash_streams.specs.declared.records.Access.TheVariants.{Execute, Read, Write}
 use Rattle.crash_streams.specs.declared.records.Sender.{Sender}
 use Rattle.crash_threads.specs.Cause.{ExceptionValue, counted_exception}
+use Rattle.crash_threads.specs.Contexts.{unaccepted_size}
 use Rattle.crash.specs.Crash.{CrashValue}
 use Rattle.crash_streams.specs.Records.{signal_code_name}
 use Rattle.crash_json.specs.Tree.{array_of, count, hex_string, object_of, or_null}
@@ -78,6 +79,7 @@ exception_json read = let e = result_ok read in object_of (
     ∷ (codes "type", or_null (λ e. or_null string e.reason) e)
     ∷ (codes "description", or_null (λ e. or_null string e.description) e)
     ∷ (codes "context_problem", or_null (λ e. or_null string (option_map problem_name e.context_problem)) e)
+    ∷ (codes "context_size", or_null (λ e. or_null count (unaccepted_size e.context_problem)) e)
     ∷ (codes "error", or_null string (option_map name_of_error (result_err read)))
     ∷ [])
 

@@ -6,7 +6,6 @@ pub mod Cause
 pub mod Modules
 pub mod Frames
 pub mod Threads
-pub mod Signature
 pub mod Records
 pub mod Crashpad
 pub mod Point

@@ -15,6 +15,7 @@ use Rattle.crash.specs.declared.damage.Damage.TheVariants.{Parameters, Records, 
 use Rattle.crash.specs.declared.damage.Damage.TheVariants.{Texts, ThreadContext}
 use Rattle.crash_process.specs.declared.directory.StreamEntry.{StreamEntry}
 use Rattle.crash.specs.Crash.{CrashValue, status_of}
+use Rattle.crash_symbols.specs.Signature.{signature_in}
 use Rattle.crash_json.specs.Tree.{array_of, count, hex_string, object_of, or_null}
 use Rattle.crash_json.specs.Cause.{address_json, exception_json}
 use Rattle.crash_json.specs.Crashpad.{crashpad_json}
@@ -22,8 +23,7 @@ use Rattle.crash_json.specs.ReportValue.{ReportValue}
 use Rattle.crash_json.specs.Modules.{unreadable_json}
 use Rattle.crash_json.specs.Point.{point_json}
 use Rattle.crash_json.specs.Records.{assertion_json, kind_json}
-use Rattle.crash_json.specs.Signature.{signature_in}
-use Rattle.crash_json.specs.System.{environment_json}
+use Rattle.crash_json.specs.System.{environment_members}
 use Rattle.crash_json.specs.Threads.{registers_of}
 
 -- ---- streams
@@ -86,7 +86,7 @@ breakpad_members info =
     (codes "requesting_thread_id", or_null count (option_and_then (λ b. b.requesting_thread_id) info))
     ∷ (codes "dump_thread_id", or_null count (option_and_then (λ b. b.dump_thread_id) info)) ∷ []
 
--- the process, with its environment where that is asked for, and who wrote the dump
+-- the process, with its environment, and who wrote the dump
 unfoldable pub process_members : Bool → CrashValue → List (List ℕ × Json)
 process_members environment c =
     (codes "written", or_null count (unless_zero c.directory.written))
@@ -95,10 +95,10 @@ process_members environment c =
     ∷ (codes "resident_size", or_null count c.process.resident)
     ∷ (breakpad_members (result_ok c.contents.system.breakpad)
     ++ ((codes "command_line", or_null string c.process.command_line)
-    ∷ (codes "environment", environment_json environment c.contents.process.environ)
-    ∷ (codes "comment", or_null string c.process.comments.narrow)
+    ∷ (environment_members environment c.contents.process.environ
+    ++ ((codes "comment", or_null string c.process.comments.narrow)
     ∷ (codes "wide_comment", or_null string c.process.comments.wide)
-    ∷ []))
+    ∷ []))))
 
 -- what the dump holds, and what of it can't be read
 unfoldable pub file_members : CrashValue → List (List ℕ × Json)
@@ -118,7 +118,7 @@ signature_members r = let c = r.crash in
     ∷ (codes "point", or_null point_json c.point)
     ∷ (codes "exceptions", array_of exception_json c.cause.exceptions)
     ∷ (codes "exception", or_null count c.cause.counts)
-    ∷ (codes "signature", or_null string (signature_in r))
+    ∷ (codes "signature", or_null string (signature_in r.symbols c))
     ∷ (codes "registers_of", or_null string (registers_of c.threads))
     ∷ (codes "handle_kinds", array_of kind_json c.process.handle_kinds)
     ∷ (codes "assertion", or_null assertion_json (result_ok c.contents.messages.assertion))

@@ -6,7 +6,8 @@ use Rattle.crash_process.specs.declared.unreadable_modules.ModulePart.TheVariant
 use Rattle.crash_process.specs.declared.unreadable_modules.UnreadableModule.{UnreadableModule}
 use Rattle.crash_process.specs.Modules.{LoadedValue, UnloadedModuleValue}
 use Rattle.crash_symbols.specs.declared.symbols.SymbolState.{SymbolState}
-use Rattle.crash_symbols.specs.declared.symbols.SymbolState.TheVariants.{Corrupt, Missing, OutOfMemory}
+use Rattle.crash_symbols.specs.declared.symbols.SymbolState.TheVariants.{Corrupt, Loaded, Missing}
+use Rattle.crash_symbols.specs.declared.symbols.SymbolState.TheVariants.{OutOfMemory, Unwanted}
 use Rattle.crash_symbols.specs.Shown.{SymbolizedValue}
 use Rattle.crash_symbols.specs.Symbols.{are_loaded, state_at}
 use Rattle.crash_json.specs.Tree.{count, hex_string, numbered_array_of, object_of, or_null}
@@ -30,22 +31,40 @@ module_members m =
 abbrev pub are_missing : SymbolState → Bool
 are_missing Missing = true
 are_missing OutOfMemory = true
-are_missing state = false
+are_missing Unwanted = false
+are_missing Loaded = false
+are_missing Corrupt = false
 
 -- symbols can't be read, or are those of another module
 abbrev pub are_corrupt : SymbolState → Bool
 are_corrupt Corrupt = true
-are_corrupt state = false
+are_corrupt Unwanted = false
+are_corrupt Missing = false
+are_corrupt Loaded = false
+are_corrupt OutOfMemory = false
 
--- whether symbols are missing, whether they are there, and whether they can't be used
-abbrev pub flag_members : Bool → Bool → Bool → List (List ℕ × Json)
-flag_members missing loaded corrupt = (codes "missing_symbols", boolean missing)
-    ∷ (codes "loaded_symbols", boolean loaded) ∷ (codes "corrupt_symbols", boolean corrupt) ∷ []
+-- memory ran out for symbols
+abbrev pub lack_memory : SymbolState → Bool
+lack_memory OutOfMemory = true
+lack_memory Unwanted = false
+lack_memory Missing = false
+lack_memory Loaded = false
+lack_memory Corrupt = false
+
+-- whether symbols are missing, whether they are there, whether they can't be used, and whether memory
+-- ran out for them
+abbrev pub flag_members : Bool → Bool → Bool → Bool → List (List ℕ × Json)
+flag_members missing loaded corrupt lacks_memory =
+    (codes "missing_symbols", boolean missing)
+    ∷ (codes "loaded_symbols", boolean loaded)
+    ∷ (codes "corrupt_symbols", boolean corrupt)
+    ∷ (codes "no_memory_for_symbols", boolean lacks_memory)
+    ∷ []
 
 -- what is known of the symbols of the module of an index, where symbols are known
 abbrev pub symbol_members : Option SymbolizedValue → ℕ → List (List ℕ × Json)
 symbol_members (Some s) index = let state = state_at s.states index in
-    flag_members (are_missing state) (are_loaded state) (are_corrupt state)
+    flag_members (are_missing state) (are_loaded state) (are_corrupt state) (lack_memory state)
 symbol_members None index = []
 
 -- ---- all of it

@@ -1,6 +1,6 @@
 -- The system on which a process ran, and what Linux says of it and of the process, as JSON.
-use Rattle.std.specs.Prelude.{ℕ, Bool, false, true, List, [], ◌∷◌, ◌++◌, codes, Option, Some, None}
-use Rattle.std.specs.Prelude.{Result, Ok, Err}
+use Rattle.std.specs.Prelude.{ℕ, Bool, List, [], ◌∷◌, ◌++◌, codes, if◌then◌else◌, length}
+use Rattle.std.specs.Prelude.{Option, Some, None, Result, Ok, Err}
 use Rattle.std.specs.Str.Lossy.{utf8_lossy}
 use Rattle.json.specs.Json.{Json, null, string}
 use Rattle.minidump.specs.declared.Error.{Error}
@@ -59,8 +59,11 @@ limits_json text = object_of ((codes "limits", array_of limit_json (limits_in te
 abbrev pub variable_json : List ℕ × List ℕ → Json
 variable_json p = entry_json (utf8_lossy p.0) (string (utf8_lossy p.1))
 
--- the environment, where it is asked for and its stream can be read
-abbrev pub environment_json : Bool → Result (List ℕ) Error → Json
-environment_json true (Ok text) = array_of variable_json (pairs_of 0x3d text)
-environment_json true (Err _) = null
-environment_json false text = null
+-- the variables of the environment, where they are asked for, and how many there are, where its
+-- stream can be read
+abbrev pub environment_members : Bool → Result (List ℕ) Error → List (List ℕ × Json)
+environment_members is_asked (Ok text) = let variables = pairs_of 0x3d text in
+    (codes "environment", if is_asked then array_of variable_json variables else null)
+    ∷ (codes "environment_count", count (length variables)) ∷ []
+environment_members is_asked (Err _) =
+    (codes "environment", null) ∷ (codes "environment_count", null) ∷ []

@@ -11,6 +11,7 @@ use Rattle.crash_threads.specs.declared.contexts.ContextOrigin.{ContextOrigin}
 use Rattle.crash_threads.specs.declared.contexts.ContextOrigin.TheVariants.{OfException, OfThread}
 use Rattle.crash_threads.specs.declared.contexts.ShortContext.{ShortContext}
 use Rattle.crash_threads.specs.declared.stacks.StackRange.{StackRange}
+use Rattle.crash_threads.specs.Contexts.{unaccepted_size}
 use Rattle.crash_threads.specs.Threads.{ThreadValue, ThreadsValue, crashed_thread, short_context}
 use Rattle.crash_symbols.specs.Backtraces.{BacktraceValue}
 use Rattle.crash_symbols.specs.Names.{NamedFrameValue}
@@ -65,6 +66,7 @@ thread_members t walk =
     ∷ (codes "stack", or_null range_json t.stack)
     ∷ (codes "stack_memory", or_null range_json t.stack_memory)
     ∷ (codes "context_problem", or_null string (option_map problem_name t.context_problem))
+    ∷ (codes "context_size", or_null count (unaccepted_size t.context_problem))
     ∷ (codes "short_context", or_null short_json (short_context t))
     ∷ (codes "end", or_null string (option_map (λ w. end_name w.end) walk))
     ∷ []

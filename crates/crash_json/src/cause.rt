@@ -1,6 +1,6 @@
 //! Where and why a process crashed: the crash, the exceptions, and the address.
 ghost use Rattle.std.specs.Prelude.{◌≡◌, IfOk, string_bytes};
-ghost use Rattle.std.specs.Option.{option_and_then, option_copied, option_map};
+ghost use Rattle.std.specs.Option.{option_and_then, option_map};
 ghost use Rattle.minidump.specs.Below.Contexts.Context.{map_ok};
 ghost use Rattle.minidump.specs.Below.Format.Error.{name_of_error};
 ghost use Rattle.minidump.specs.Promise.{assertion_stream};
@@ -12,15 +12,14 @@ ghost use Rattle.crash_json.specs.Cause.{access_name, address_json, address_memb
 ghost use Rattle.crash_json.specs.Cause.{crash_info_json, exception_json, expression_in, memory_json};
 ghost use Rattle.crash_json.specs.Cause.{place_members, problem_name, sender_json, state_name};
 
-use crate::tree::{Members, Put, ToJson, members};
+use crate::tree::{Decimal, Members, Put, ToJson, members};
 use crash::{
     Access, AddressFacts, AddressMemory, ContextProblem, Crash, CrashCause, CrashException,
-    RegionState, Sender, SignalCode,
+    RegionState, Sender, SignalCode, unaccepted_size,
 };
 use json::Writer;
 use minidump::own_streams::text_before_nul;
 use minidump::{Error, MinidumpAssertion};
-use minidump_bytes::as_text;
 use std::alloc::{AllocError, Global};
 
 // ---- the crash
@@ -36,21 +35,13 @@ impl ToJson for CrashInfo<'_, '_> {
         let crash = self.0;
         let assertion = expression_of(alloc, &crash.contents.messages.assertion)?;
         members! {
-            "type": reason_of(&crash.cause),
+            "type": crash.cause.reason(),
             "address": address_of(&crash.cause),
             "crashing_thread": crash.threads.crashing,
             "assertion": &assertion,
         }
         .put_object(out, alloc)
     }
-}
-
-/// Returns the words for the reason of the crash.
-pub(crate) fn reason_of(cause: &CrashCause) -> Option<&str>
-    ensures { option_copied result
-        ≡ option_and_then (λ e. e.reason) (counted_exception (cause_of cause.now)) }
-{
-    as_text(&cause.counted()?.reason)
 }
 
 // Returns the address of the crash.
@@ -96,6 +87,7 @@ impl ToJson for Result<CrashException, Error> {
                 "type": &exception.reason,
                 "description": &exception.description,
                 "context_problem": exception.context_problem,
+                "context_size": Decimal(unaccepted_size(exception.context_problem)),
                 "error": (),
             }
             .put_object(out, alloc),
@@ -112,6 +104,7 @@ impl ToJson for Result<CrashException, Error> {
                 "type": (),
                 "description": (),
                 "context_problem": (),
+                "context_size": (),
                 "error": error,
             }
             .put_object(out, alloc),

@@ -15,11 +15,11 @@ ghost use Rattle.crash_json.specs.Minidump.{file_members, minidump_json, process
 ghost use Rattle.crash_json.specs.Minidump.{signature_members, stream_json, unless_zero};
 
 use crate::report::Report;
-use crate::signature::signature_in;
 use crate::system::Environment;
 use crate::threads::registers_of;
 use crate::tree::{Decimal, Members, Put, ToJson, members};
 use crash::{Crash, Damage, StreamEntry, regions_of};
+use crash_symbols::signature_of;
 use json::Writer;
 use minidump::format::MINIDUMP_STREAM_TYPE;
 use minidump::{Error, MinidumpBreakpadInfo, UnifiedMemory, UnifiedMemoryList};
@@ -37,7 +37,7 @@ pub(crate) fn put_minidump(report: &Report<'_, '_, '_, '_>, out: &mut Writer, al
     out.end_object()
 }
 
-// Adds the process, with its environment if it is asked for, and who wrote the dump.
+// Adds the process, with its environment, and who wrote the dump.
 fn add_process(crash: &Crash<'_>, is_asked: bool, out: &mut Writer, alloc: Global) -> Put
     ensures { Adds result out.old out.new (process_members is_asked (crash_of crash.now)) }
 {
@@ -52,7 +52,7 @@ fn add_process(crash: &Crash<'_>, is_asked: bool, out: &mut Writer, alloc: Globa
         "resident_size": Decimal(crash.process.resident),
         ..&crash.contents.system.breakpad,
         "command_line": &crash.process.command_line,
-        "environment": environment,
+        ..environment,
         "comment": &crash.process.comments.narrow,
         "wide_comment": &crash.process.comments.wide,
     }
@@ -111,7 +111,7 @@ fn add_signature(report: &Report<'_, '_, '_, '_>, out: &mut Writer, alloc: Globa
     ensures { Adds result out.old out.new (signature_members (report_of report.now)) }
 {
     let crash = report.crash;
-    let signature = signature_in(alloc, *report)?;
+    let signature = signature_of(alloc, crash, report.symbols)?;
     members! {
         "address": crash.cause.address,
         "point": &crash.point,

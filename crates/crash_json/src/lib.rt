@@ -44,7 +44,6 @@ mod modules;
 mod point;
 mod records;
 mod report;
-mod signature;
 mod system;
 mod threads;
 mod tree;

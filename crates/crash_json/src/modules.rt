@@ -78,25 +78,34 @@ impl Members for ModuleSymbols<'_, '_, '_> {
     fn add(&self, out: &mut Writer, alloc: Global) -> Put {
         match self.symbols {
             Some(known) => match known.symbols.state(self.index) {
-                SymbolState::Unwanted => add_flags(out, alloc, false, false, false),
-                SymbolState::Missing => add_flags(out, alloc, true, false, false),
-                SymbolState::Loaded => add_flags(out, alloc, false, true, false),
-                SymbolState::Corrupt => add_flags(out, alloc, false, false, true),
-                SymbolState::OutOfMemory => add_flags(out, alloc, true, false, false),
+                SymbolState::Unwanted => add_flags(out, alloc, false, false, false, false),
+                SymbolState::Missing => add_flags(out, alloc, true, false, false, false),
+                SymbolState::Loaded => add_flags(out, alloc, false, true, false, false),
+                SymbolState::Corrupt => add_flags(out, alloc, false, false, true, false),
+                SymbolState::OutOfMemory => add_flags(out, alloc, true, false, false, true),
             },
             None => Ok(()),
         }
     }
 }
 
-// Adds whether symbols are missing, whether they are there, and whether they can't be used.
-fn add_flags(out: &mut Writer, alloc: Global, missing: bool, loaded: bool, corrupt: bool) -> Put
-    ensures { Adds result out.old out.new (flag_members missing loaded corrupt) }
+// Adds whether symbols are missing, whether they are there, whether they can't be used, and whether
+// memory ran out for them.
+fn add_flags(
+    out: &mut Writer,
+    alloc: Global,
+    missing: bool,
+    loaded: bool,
+    corrupt: bool,
+    lacks_memory: bool,
+) -> Put
+    ensures { Adds result out.old out.new (flag_members missing loaded corrupt lacks_memory) }
 {
     members! {
         "missing_symbols": missing,
         "loaded_symbols": loaded,
         "corrupt_symbols": corrupt,
+        "no_memory_for_symbols": lacks_memory,
     }
     .add(out, alloc)
 }

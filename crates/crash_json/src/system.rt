@@ -8,7 +8,7 @@ ghost use Rattle.minidump.specs.Promise.{linux_environ_stream, linux_proc_limits
 ghost use Rattle.crash_process.specs.Linux.{limit_of};
 ghost use Rattle.crash_process.specs.Process.{system_of};
 ghost use Rattle.crash_process.specs.Release.{release_of};
-ghost use Rattle.crash_json.specs.System.{environment_json, limit_json, limits_json, release_json};
+ghost use Rattle.crash_json.specs.System.{environment_members, limit_json, limits_json, release_json};
 ghost use Rattle.crash_json.specs.System.{system_json, variable_json, with_build};
 
 use crate::tree::{Members, Put, ToJson, members};
@@ -121,25 +121,32 @@ impl ToJson for ProcessLimit {
 
 // ---- the environment
 
-/// The environment, if it is asked for and its stream can be read.
+/// The environment, and whether its variables are asked for.
 #[derive(Clone, Copy)]
 pub(crate) struct Environment<'l, 'a> {
     pub(crate) is_asked: bool,
     pub(crate) found: &'l Result<MinidumpLinuxEnviron<'a>, Error>,
 }
 
-impl ToJson for Environment<'_, '_> {
-    ghost json = { λ e. environment_json e.is_asked
+impl Members for Environment<'_, '_> {
+    ghost members = { λ e. environment_members e.is_asked
         (map_ok linux_environ_stream.value e.found.now) };
 
     #[tactic(auto, using(crate::proofs::Tokens::views))]
-    fn put(&self, out: &mut Writer, alloc: Global) -> Put {
+    fn add(&self, out: &mut Writer, alloc: Global) -> Put {
         match self.found {
-            Ok(found) if self.is_asked => {
+            Ok(found) => {
                 let variables = variables_of(alloc, found)?;
-                variables.put(out, alloc)
+                let asked = if self.is_asked {
+                    Some(&variables)
+                } else {
+                    None
+                };
+                members! { "environment": asked, "environment_count": variables.len(), }.add(
+                    out, alloc,
+                )
             }
-            _ => out.null(),
+            Err(_) => members! { "environment": (), "environment_count": (), }.add(out, alloc),
         }
     }
 }

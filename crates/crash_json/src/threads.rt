@@ -13,7 +13,7 @@ ghost use Rattle.crash_json.specs.Threads.{threads_json};
 use crate::frames::EachFrame;
 use crate::report::Report;
 use crate::tree::{Decimal, Members, Numbered, NumberedJson, Put, ToJson, members};
-use crash::{ContextOrigin, CrashThread, CrashThreads, ShortContext, StackRange};
+use crash::{ContextOrigin, CrashThread, CrashThreads, ShortContext, StackRange, unaccepted_size};
 use crash_symbols::{ShownFrame, ShownWalk, shown_walk};
 use json::Writer;
 use stack_walk::WalkEnd;
@@ -83,6 +83,7 @@ fn add_thread(
         "stack": thread.stack,
         "stack_memory": thread.stack_memory,
         "context_problem": thread.context_problem,
+        "context_size": Decimal(unaccepted_size(thread.context_problem)),
         "short_context": thread.short_context(),
         "end": end_of(walk),
     }

@@ -8,6 +8,7 @@ use Rattle.minidump.specs.Below.Bytes.Piece.{hex}
 use Rattle.crash_threads.specs.declared.contexts.ContextProblem.{ContextProblem}
 use Rattle.crash_threads.specs.declared.contexts.ContextProblem.TheVariants.{NoSystem, NotAccepted, Outside}
 use Rattle.crash_threads.specs.Cause.{ExceptionValue}
+use Rattle.crash_threads.specs.Contexts.{unaccepted_size}
 use Rattle.crash_threads.specs.Counting.{counted}
 use Rattle.crash.specs.Crash.{CrashValue}
 use Rattle.crash_lines.specs.Addresses.{address_line}
@@ -15,7 +16,8 @@ use Rattle.crash_lines.specs.Lines.{if_some, table}
 use Rattle.crash_lines.specs.Point.{point_lines}
 use Rattle.crash_lines.specs.Records.{record_text}
 use Rattle.crash_lines.specs.Registers.{registers_lines}
-use Rattle.crash_lines.specs.Words.{error_words, hex_unless, id_words, or_empty, text_after, text_if}
+use Rattle.crash_lines.specs.Words.{decimal_if, error_words, hex_unless, id_words, or_empty}
+use Rattle.crash_lines.specs.Words.{text_after, text_if}
 
 -- ---- the crash
 
@@ -46,12 +48,13 @@ context_words None = []
 
 -- the line of an exception with its number: its thread, its code, where it happened, its address
 -- where that is another, the reason, what else its record and LLDB say, and why its context can't be
--- read; or why the exception can't be
+-- read, with its size; or why the exception can't be
 unfoldable pub exception_line : ℕ → Result ExceptionValue Error → List ℕ
 exception_line number (Ok e) = concat (codes "    #" ∷ decimal number
     ∷ codes " thread " ∷ id_words e.thread ∷ codes ", code " ∷ hex e.code ∷ codes " at " ∷ hex e.at
     ∷ hex_unless e.at (codes ", address ") e.address ∷ text_after (codes ", ") (or_empty e.reason)
-    ∷ record_text e ∷ text_if (codes ", ") e.description [] ∷ context_words e.context_problem ∷ [])
+    ∷ record_text e ∷ text_if (codes ", ") e.description [] ∷ context_words e.context_problem
+    ∷ decimal_if (codes ", ") (unaccepted_size e.context_problem) (codes " bytes") ∷ [])
 exception_line number (Err error) = concat (codes "    #" ∷ decimal number
     ∷ codes " can't be read" ∷ error_words (Some error) ∷ [])
 

@@ -9,14 +9,13 @@ use Rattle.minidump.specs.Below.Contexts.Register.{register_text}
 use Rattle.crash_threads.specs.declared.contexts.ContextOrigin.{ContextOrigin}
 use Rattle.crash_threads.specs.declared.contexts.ContextOrigin.TheVariants.{OfException, OfThread}
 use Rattle.crash_threads.specs.declared.contexts.ContextProblem.{ContextProblem}
-use Rattle.crash_threads.specs.declared.contexts.ContextProblem.TheVariants.{NotAccepted}
 use Rattle.crash_threads.specs.declared.contexts.ShortContext.{ShortContext}
 use Rattle.crash_threads.specs.Cause.{ExceptionValue}
-use Rattle.crash_threads.specs.Contexts.{ContextValue}
+use Rattle.crash_threads.specs.Contexts.{ContextValue, unaccepted_size}
 use Rattle.crash.specs.Crash.{CrashValue}
 use Rattle.crash_threads.specs.Threads.{crashed_thread}
 use Rattle.crash_lines.specs.Lines.{table}
-use Rattle.crash_lines.specs.Words.{count_if}
+use Rattle.crash_lines.specs.Words.{decimal_if}
 
 -- the words for a register of `size` bytes: its name in three columns, and its value with two
 -- digits for each byte, of at most 8
@@ -53,9 +52,8 @@ heading_row origin short =
 -- that the context of an exception isn't used since it is no context of the processor, with its
 -- size in bytes. One that is outside the file is a line of damage, and one of 0 bytes has no line
 unfoldable pub unused_lines : Option ContextProblem → List (List ℕ)
-unused_lines (Some (NotAccepted size)) = table ((
-    count_if (codes "the context of the exception can't be read, ") size (codes " bytes") ∷ []) ∷ [])
-unused_lines _ = []
+unused_lines problem = table ((decimal_if (codes "the context of the exception can't be read, ")
+    (unaccepted_size problem) (codes " bytes") ∷ []) ∷ [])
 
 -- the registers of the thread that crashed, or that there are none that can be read
 abbrev pub known_lines : Option ContextValue → List (List ℕ)

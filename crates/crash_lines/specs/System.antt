@@ -1,4 +1,4 @@
--- The lines of the system, of the date of the dump, and of the process.
+-- The lines of the system, of the date of the dump, of the program, and of the process.
 use Rattle.std.specs.Prelude.{ℕ, ◌==◌, ◌++◌, List, [], ◌∷◌, codes, if◌then◌else◌}
 use Rattle.std.specs.Fmt.{decimal}
 use Rattle.std.specs.List.{concat}
@@ -11,6 +11,7 @@ use Rattle.minidump.specs.Below.System.Cpu.{cpu_name}
 use Rattle.minidump.specs.Below.System.Dates.{date_text_of}
 use Rattle.minidump.specs.Below.System.Os.{os_name}
 use Rattle.crash.specs.Crash.{CrashValue}
+use Rattle.crash_process.specs.Modules.{LoadedValue}
 use Rattle.crash_process.specs.Process.{ProcessFacts, SystemValue}
 use Rattle.crash_process.specs.Release.{ReleaseValue}
 use Rattle.crash_lines.specs.Lines.{if_ok, if_some, table}
@@ -56,6 +57,15 @@ breakpad_lines b = table (
     ∷ (id_if (codes "dump written by thread ") b.dump_thread_id ∷ [])
     ∷ [])
 
+-- the line of a program, by the path of its module
+unfoldable pub program_row : LoadedValue → List ℕ
+program_row m = concat (codes "program " ∷ m.path ∷ [])
+
+-- the program of these modules, which is the first of them
+abbrev pub program_lines : List LoadedValue → List (List ℕ)
+program_lines [] = []
+program_lines (m ∷ ms) = program_row m ∷ []
+
 -- the process: its id and that of its parent, for how long it ran, how much of it was in memory,
 -- and its command line; and the comments of the dump
 unfoldable pub process_lines : ProcessFacts → List (List ℕ)
@@ -75,4 +85,5 @@ head_lines c = if_some system_lines c.process.system
     ++ (missing_lines (codes "no system information") c.contents.system.system
     ++ (if_some (λ r. release_line r ∷ []) c.process.release
     ++ (if_ok boot_lines c.contents.messages.mac_boot_args ++ (date_lines c.directory.written
-    ++ (if_ok breakpad_lines c.contents.system.breakpad ++ process_lines c.process)))))
+    ++ (if_ok breakpad_lines c.contents.system.breakpad ++ (program_lines c.modules.loaded
+    ++ process_lines c.process))))))

@@ -7,9 +7,11 @@ ghost use Rattle.crash_lines.specs.Exceptions.{exception_line, none_lines, sever
 ghost use Rattle.crash_lines.specs.Lines.{Adds};
 
 use crate::lines::{Added, push_row, push_table, push_text_line};
-use crate::parts::Part::{Decimal, Failed, Hex, HexUnless, Id, Record, Text, TextAfter, Words};
+use crate::parts::Part::{
+    Decimal, DecimalIf, Failed, Hex, HexUnless, Id, Record, Text, TextAfter, Words,
+};
 use crate::point::{push_address_line, push_point, push_registers};
-use crash::{ContextProblem, Crash, CrashException};
+use crash::{ContextProblem, Crash, CrashException, unaccepted_size};
 use minidump::Error;
 
 /// Appends the lines of the crash, and those of the exceptions if there are several.
@@ -116,6 +118,7 @@ fn push_exception(
             TextAfter(", ", &exception.reason), Record(exception),
             Text(", ", &exception.description, ""),
             Words(context_words(exception.context_problem)),
+            DecimalIf(", ", unaccepted_size(exception.context_problem), " bytes"),
         ]),
         Err(error) => push_row(out, &[
             Words("    #"), Decimal(number as u64), Words(" can't be read"), Failed(Some(*error)),

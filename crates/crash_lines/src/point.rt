@@ -19,11 +19,11 @@ ghost use Rattle.crash_lines.specs.Registers.{register_row, registers_lines, row
 
 use crate::lines::{Added, push_row, push_table, push_text_line};
 use crate::parts::Part::{
-    Code, Count, Flags, Hex, HexIf, Id, If, Memory, Names, Place, Registers, Said, Short, Words,
+    Code, DecimalIf, Flags, Hex, HexIf, Id, If, Memory, Names, Place, Registers, Said, Short, Words,
 };
 use crash::{
-    AddressFacts, ContextOrigin, ContextProblem, Crash, CrashContext, CrashException, CrashModule,
-    CrashPoint, ShortContext, StackWord,
+    AddressFacts, ContextOrigin, Crash, CrashContext, CrashException, CrashModule, CrashPoint,
+    ShortContext, StackWord, unaccepted_size,
 };
 
 // ---- an address
@@ -84,11 +84,10 @@ pub(crate) fn push_registers(
 {
     match &crash.process.system {
         Some(_) => {
-            if let Some(ContextProblem::NotAccepted { size }) = exception.context_problem {
-                push_table(out, &[
-                    &[Count("the context of the exception can't be read, ", size, " bytes")],
-                ])?;
-            }
+            let size = unaccepted_size(exception.context_problem);
+            push_table(out, &[
+                &[DecimalIf("the context of the exception can't be read, ", size, " bytes")],
+            ])?;
             push_known(out, crashed_context(crash))
         }
         None => Ok(()),

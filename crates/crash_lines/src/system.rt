@@ -1,22 +1,23 @@
-ghost use Rattle.std.specs.Prelude.{[], ◌∷◌, codes};
+ghost use Rattle.std.specs.Prelude.{[], ◌++◌, ◌∷◌, codes, map};
 ghost use Rattle.std.specs.Option.{option_map};
 ghost use Rattle.minidump.specs.Below.Contexts.Context.{map_ok};
 ghost use Rattle.minidump.specs.Promise.{breakpad_info_stream, mac_bootargs_stream, system_info_stream};
 ghost use Rattle.crash.specs.Crash.{crash_of};
+ghost use Rattle.crash_process.specs.Modules.{loaded_of};
 ghost use Rattle.crash_process.specs.Process.{process_of, system_of};
 ghost use Rattle.crash_process.specs.Release.{release_of};
 ghost use Rattle.crash_lines.specs.Lines.{Adds, if_ok, if_some};
 ghost use Rattle.crash_lines.specs.System.{boot_lines, breakpad_lines, date_lines, head_lines};
-ghost use Rattle.crash_lines.specs.System.{process_lines, release_line, system_lines};
+ghost use Rattle.crash_lines.specs.System.{process_lines, program_lines, release_line, system_lines};
 ghost use Rattle.crash_lines.specs.Words.{missing_lines};
 
 use crate::lines::{Added, push_if_missing, push_row, push_table};
 use crate::parts::Part::{Cpu, Decimal, DecimalIf, Id, Os, Text, TextAfter, Words};
-use crash::{Crash, CrashProcess, CrashSystem, LsbRelease};
+use crash::{Crash, CrashModule, CrashProcess, CrashSystem, LsbRelease};
 use minidump::{Error, MinidumpBreakpadInfo, MinidumpMacBootargs, MinidumpSystemInfo, date_text};
 use std::alloc::AllocError;
 
-/// Appends the lines of the system, of the date of the dump, and of the process.
+/// Appends the lines of the system, of the date of the dump, of the program, and of the process.
 pub fn push_head(out: &mut String, crash: &Crash<'_>) -> Added
     ensures { Adds out.old out.new (head_lines (crash_of crash.now)) result }
 {
@@ -26,7 +27,7 @@ pub fn push_head(out: &mut String, crash: &Crash<'_>) -> Added
     push_boot(out, &crash.contents.messages.mac_boot_args)?;
     push_date(out, crash.directory.written)?;
     push_breakpad(out, &crash.contents.system.breakpad)?;
-    push_process(out, &crash.process)
+    push_program(out, crash)
 }
 
 // Appends the lines of the system, if it is known.
@@ -116,6 +117,26 @@ fn push_breakpad(out: &mut String, info: &Result<MinidumpBreakpadInfo, Error>) -
             &[Id("dump written by thread ", info.dump_thread_id)],
         ]),
         Err(_) => Ok(()),
+    }
+}
+
+// Appends the lines of the program and of its process.
+fn push_program(out: &mut String, crash: &Crash<'_>) -> Added
+    ensures { Adds out.old out.new (program_lines (crash_of crash.now).modules.loaded
+        ++ process_lines (crash_of crash.now).process) result }
+{
+    push_path(out, crash.modules.loaded.as_slice())?;
+    push_process(out, &crash.process)
+}
+
+// Appends the path of the program, the first of the modules, if there are any.
+#[tactic(auto, unfolding(crate::specs::System::program_row))]
+fn push_path(out: &mut String, modules: &[CrashModule]) -> Added
+    ensures { Adds out.old out.new (program_lines (map loaded_of modules.now)) result }
+{
+    match modules {
+        [main, ..] => push_row(out, &[Words("program "), Words(main.path.as_str())]),
+        [] => Ok(()),
     }
 }
 

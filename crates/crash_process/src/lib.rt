@@ -7,7 +7,8 @@
 //!
 //! # Errors
 //!
-//! `OutOfMemory` alone, if an allocation fails. What a stream that can't be read would say is absent.
+//! If an allocation fails, `OutOfMemory`; of calls without another error, `AllocError`. What a stream
+//! that can't be read would say is absent.
 //!
 //! # What is proved
 //!

@@ -4,3 +4,4 @@ pub mod PathLemmas
 pub mod WantedLemmas
 pub mod BacktraceLemmas
 pub mod ShownLemmas
+pub mod SignatureLemmas

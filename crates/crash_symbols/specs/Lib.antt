@@ -7,3 +7,4 @@ pub mod Backtraces
 pub mod Wanted
 pub mod Modules
 pub mod Shown
+pub mod Signature

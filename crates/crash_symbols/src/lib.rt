@@ -1,5 +1,5 @@
 //! The backtraces of a crash by Breakpad's symbol files: each frame with its function, its source line
-//! and the calls that the compiler put in place there.
+//! and the calls that the compiler put in place there; and the signature of a crash.
 //!
 //! - [`Symbols`] has the symbol file of each module that is known, and what is known of each file.
 //! - [`Backtraces::find`] walks each thread of a [`crash::Crash`] by the rules of these files, as
@@ -8,6 +8,7 @@
 //!   to further frames, and so to further modules.
 //! - [`shown_walk`] is what a form shows of a thread: its backtrace, or without symbols its walk, of
 //!   which [`ShownWalk::first_frames`] takes the first frames.
+//! - [`signature_of`] makes the signature of a crash, which crashes of one kind share.
 //! - [`symbol_path`] is where the file of a module lies below a directory of symbol files, and
 //!   [`is_of_module`] tells whether a file is the module's.
 //!
@@ -33,6 +34,7 @@
 //! - The modules whose files are wanted are those of `wanted_in`: [`Backtraces::wanted`].
 //! - What is shown of a thread is `shown_in` of the backtraces and the thread: [`shown_walk`]. The
 //!   first of its frames are `first_frames` of that: [`ShownWalk::first_frames`].
+//! - A signature is the text that `signature_in` assigns to the crash: [`signature_of`].
 //! - A file is a module's by `is_of_module`, and lies at `symbol_path`: [`is_of_module`],
 //!   [`symbol_path`].
 #![tactic(auto)]
@@ -41,6 +43,7 @@ mod backtraces;
 mod modules;
 mod names;
 mod shown;
+mod signature;
 mod symbols;
 mod wanted;
 
@@ -48,4 +51,5 @@ pub use backtraces::{Backtrace, Backtraces, Symbolized};
 pub use modules::{is_of_module, symbol_path};
 pub use names::{FrameFunction, InlinedCall, NamedFrame, SourceLine};
 pub use shown::{ShownFrame, ShownWalk, first_of, shown_walk};
+pub use signature::signature_of;
 pub use symbols::{SymbolState, Symbols};

@@ -1,5 +1,5 @@
 -- The lines of frames, and which frames are printed.
-use Rattle.std.specs.Prelude.{ℕ, ◌++◌, ◌-◌, Bool, false, true, List, [], ◌∷◌, length, map}
+use Rattle.std.specs.Prelude.{ℕ, ◌++◌, ◌-◌, ◌&&◌, Bool, false, true, List, [], ◌∷◌, length, map, not}
 use Rattle.std.specs.Prelude.{codes, if◌then◌else◌, take, unwrap_or, Option, Some, None}
 use Rattle.std.specs.Fmt.{decimal}
 use Rattle.std.specs.List.{concat, enumerate_from, flat_map}
@@ -24,8 +24,8 @@ use Rattle.crash_symbols.specs.Shown.{all_frames, first_frames}
 use Rattle.crash_text.specs.declared.frames.FrameEntry.{FrameEntry}
 use Rattle.crash_text.specs.declared.limits.TextLimits.{TextLimits}
 use Rattle.crash_lines.specs.Lines.{table}
-use Rattle.crash_text.specs.Page.{PageValue}
-use Rattle.crash_lines.specs.Words.{count_if, hex_if, line_text, lossy_if, place_text}
+use Rattle.crash_text.specs.Page.{PageValue, if_asked}
+use Rattle.crash_lines.specs.Words.{count_if, hex_if, hex_unless, line_text, lossy_if, place_text}
 
 -- ---- a frame, and the inlined calls there
 
@@ -98,17 +98,24 @@ abbrev pub printed_address : CrashFrame → ℕ
 printed_address f = unwrap_or f.address f.instruction
 
 -- the line of a frame or a call: its number, its address, its function with the offset in it, its
--- source line, its module, and how it was found
-unfoldable pub entry_line : List LoadedValue → ℕ → EntryValue → List ℕ
-entry_line modules number e = concat (codes "    #" ∷ decimal number ∷ codes " "
+-- source line, its module, and how it was found; then, of a frame where they are asked for, its
+-- instruction if that isn't the address, its stack pointer and its frame pointer
+unfoldable pub entry_line : Bool → List LoadedValue → ℕ → EntryValue → List ℕ
+entry_line is_asked modules number e = let is_own = is_asked && not e.is_inline in
+    concat (codes "    #" ∷ decimal number ∷ codes " "
     ∷ hex (printed_address e.frame) ∷ lossy_if (codes " ") e.function
     ∷ hex_if (codes " + ") e.offset ∷ source_text e.source
     ∷ place_text modules (codes " in no module") e.frame.«module»
-    ∷ found_text e.is_inline e.frame.trust ∷ [])
+    ∷ found_text e.is_inline e.frame.trust
+    ∷ hex_unless (printed_address e.frame) (codes ", instruction ")
+    (if_asked is_own (Some e.frame.instruction))
+    ∷ hex_if (codes ", stack pointer ") (if_asked is_own (Some e.frame.stack_pointer))
+    ∷ hex_if (codes ", frame pointer ") (if_asked is_own e.frame.frame_pointer) ∷ [])
 
 -- frames and calls, each with its number
-abbrev pub each_entry : List LoadedValue → List EntryValue → List (List ℕ)
-each_entry modules entries = map (λ p. entry_line modules p.0 p.1) (enumerate_from 0 entries)
+abbrev pub each_entry : Bool → List LoadedValue → List EntryValue → List (List ℕ)
+each_entry is_asked modules entries =
+    map (λ p. entry_line is_asked modules p.0 p.1) (enumerate_from 0 entries)
 
 -- ---- the frames of a thread
 
@@ -143,5 +150,5 @@ rest_lines limits w = table (
 -- what is found in the stack of a thread
 abbrev pub walk_lines : PageValue → Bool → BacktraceValue → List (List ℕ)
 walk_lines p is_whole w =
-    each_entry p.crash.modules.loaded (entries_in (printed_frames p.limits is_whole w))
+    each_entry p.limits.lists p.crash.modules.loaded (entries_in (printed_frames p.limits is_whole w))
     ++ (if is_whole then rest_lines p.limits w else [])

@@ -15,7 +15,7 @@ use Rattle.crash_symbols.specs.declared.symbols.SymbolState.TheVariants.{OutOfMe
 use Rattle.crash_symbols.specs.Shown.{SymbolizedValue}
 use Rattle.crash_symbols.specs.Symbols.{state_at}
 use Rattle.crash_text.specs.declared.limits.TextLimits.{TextLimits}
-use Rattle.crash_text.specs.Page.{PageValue}
+use Rattle.crash_text.specs.Page.{PageValue, if_asked}
 use Rattle.crash_text.specs.Threads.{frames_in}
 use Rattle.crash_lines.specs.Words.{count_row, hex_if, if_missing, key_text, version_text}
 
@@ -25,15 +25,11 @@ use Rattle.crash_lines.specs.Words.{count_row, hex_if, if_missing, key_text, ver
 abbrev pub all_modules : TextLimits → Bool
 all_modules limits = limits.lists || limits.modules
 
--- the address after a module, where all modules are asked for
-abbrev pub end_if : Bool → Option ℕ → Option ℕ
-end_if is_asked end = if is_asked then end else None
-
--- the words for why a module has no symbols, where they were looked for
+-- the words for the symbols of a module, where they were looked for
 abbrev pub state_text : SymbolState → List ℕ
 state_text Unwanted = []
 state_text Missing = codes ", no symbols"
-state_text Loaded = []
+state_text Loaded = codes ", symbols read"
 state_text Corrupt = codes ", symbols of another module or damaged"
 state_text OutOfMemory = codes ", no memory for its symbols"
 
@@ -47,7 +43,7 @@ symbols_text None index = []
 -- and of its code file; and the words for its symbols
 unfoldable pub module_line : Bool → LoadedValue → List ℕ → List ℕ
 module_line is_asked m symbols = concat (codes "    " ∷ hex m.base
-    ∷ hex_if (codes "-") (end_if is_asked m.end) ∷ codes " " ∷ m.path ∷ version_text m.version
+    ∷ hex_if (codes "-") (if_asked is_asked m.end) ∷ codes " " ∷ m.path ∷ version_text m.version
     ∷ key_text (codes ", debug ") m.debug_file m.debug_id
     ∷ key_text (codes ", code ") (Some m.file) m.code_id ∷ symbols ∷ [])
 

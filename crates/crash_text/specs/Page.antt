@@ -1,5 +1,5 @@
 -- What a text is made of.
-use Rattle.std.specs.Prelude.{Option}
+use Rattle.std.specs.Prelude.{ℕ, Bool, Option, None, if◌then◌else◌}
 use Rattle.std.specs.Option.{option_copied, option_map}
 use Rattle.crash.specs.Crash.{CrashValue, crash_of}
 use Rattle.crash_symbols.specs.Shown.{SymbolizedValue, symbolized_of}
@@ -19,3 +19,7 @@ page_of p = record {
   limits = p.limits.now;
   symbols = option_map symbolized_of (option_copied p.symbols);
 }
+
+-- a number, where it is asked for
+abbrev pub if_asked : Bool → Option ℕ → Option ℕ
+if_asked is_asked n = if is_asked then n else None

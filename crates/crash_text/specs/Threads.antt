@@ -8,6 +8,7 @@ use Rattle.crash_threads.specs.declared.contexts.ContextProblem.{ContextProblem}
 use Rattle.crash_threads.specs.declared.contexts.ContextProblem.TheVariants.{NoSystem, NotAccepted, Outside}
 use Rattle.crash_threads.specs.declared.frames.CrashFrame.{CrashFrame}
 use Rattle.crash_threads.specs.declared.stacks.StackRange.{StackRange}
+use Rattle.crash_threads.specs.Contexts.{unaccepted_size}
 use Rattle.crash_process.specs.Process.{SystemValue}
 use Rattle.crash_threads.specs.Threads.{ThreadValue, crashed_thread, short_context}
 use Rattle.crash_symbols.specs.Backtraces.{BacktraceValue}
@@ -17,7 +18,7 @@ use Rattle.crash_text.specs.Frames.{printed_frames, walk_lines}
 use Rattle.crash_lines.specs.Lines.{if_some, table}
 use Rattle.crash_text.specs.Page.{PageValue}
 use Rattle.crash_lines.specs.Registers.{short_if}
-use Rattle.crash_lines.specs.Words.{id_words, missing_lines, text_if, words_or}
+use Rattle.crash_lines.specs.Words.{decimal_if, id_words, missing_lines, text_if, words_or}
 
 -- ---- a thread
 
@@ -51,24 +52,31 @@ abbrev pub stack_lines : Option StackRange → Option StackRange → List (List 
 stack_lines stack memory = if_some (λ range. range_row (codes "    stack ") range ∷ []) stack
     ++ if_some (memory_lines stack) memory
 
--- why a thread has no frames
-abbrev pub no_walk_row : Option SystemValue → Option ContextProblem → List ℕ
-no_walk_row (Some _) (Some Outside) = codes "    its context is outside the file"
-no_walk_row (Some _) _ = codes "    no context that can be read"
-no_walk_row None problem = codes "    no frames without system information"
+-- words, and how many bytes there are of a context that isn't accepted
+unfoldable pub unaccepted_row : List ℕ → Option ContextProblem → List ℕ
+unaccepted_row words problem =
+    concat (words ∷ decimal_if (codes ", ") (unaccepted_size problem) (codes " bytes") ∷ [])
+
+-- the words for why a thread has no frames
+abbrev pub no_walk_words : Option SystemValue → Option ContextProblem → List ℕ
+no_walk_words (Some _) (Some Outside) = codes "    its context is outside the file"
+no_walk_words (Some _) _ = codes "    no context that can be read"
+no_walk_words None problem = codes "    no frames without system information"
 
 -- why the own context of a thread isn't used, whose frames are those of the exception's context.
 -- That the system is unknown is said elsewhere
 abbrev pub own_lines : Option ContextProblem → List (List ℕ)
 own_lines (Some Outside) = codes "    its own context is outside the file" ∷ []
-own_lines (Some (NotAccepted size)) = codes "    its own context can't be read" ∷ []
+own_lines (Some (NotAccepted size)) =
+    unaccepted_row (codes "    its own context can't be read") (Some (NotAccepted size)) ∷ []
 own_lines (Some NoSystem) = []
 own_lines None = []
 
 -- what is found in the stack of a thread, or why nothing is
 abbrev pub found_lines : PageValue → Bool → ThreadValue → Option BacktraceValue → List (List ℕ)
 found_lines p is_whole t (Some w) = own_lines t.context_problem ++ walk_lines p is_whole w
-found_lines p is_whole t None = no_walk_row p.crash.process.system t.context_problem ∷ []
+found_lines p is_whole t None =
+    unaccepted_row (no_walk_words p.crash.process.system t.context_problem) t.context_problem ∷ []
 
 -- a thread by its index, with its stack and the end of its walk if all of its frames are asked for
 abbrev pub thread_lines : PageValue → Bool → ℕ → ThreadValue → List (List ℕ)

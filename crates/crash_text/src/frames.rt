@@ -1,5 +1,5 @@
 //! The lines of the frames of a thread, and of the inlined calls in their functions.
-ghost use Rattle.std.specs.Prelude.{◌≡◌, ◌++◌, [], ◌∷◌, IfOk, OnOk, map};
+ghost use Rattle.std.specs.Prelude.{◌≡◌, ◌&&◌, ◌++◌, [], ◌∷◌, IfOk, OnOk, map, not};
 ghost use Rattle.std.specs.Option.{option_map};
 ghost use Rattle.crash_process.specs.Modules.{loaded_of};
 ghost use Rattle.crash_symbols.specs.NameParts.{call_of, source_of};
@@ -12,9 +12,9 @@ ghost use Rattle.crash_lines.specs.Parts.{part_text};
 ghost use Rattle.crash_text.specs.Page.{page_of};
 
 use crate::limits::TextLimits;
-use crate::text::Page;
+use crate::text::{Page, if_asked};
 use crash::{CrashFrame, CrashModule};
-use crash_lines::Part::{Count, Decimal, Hex, HexIf, Lossy, Place, Words};
+use crash_lines::Part::{Count, Decimal, Hex, HexIf, HexUnless, Lossy, Place, Words};
 use crash_lines::{Added, Part, push_row, push_table};
 use crash_symbols::{InlinedCall, ShownFrame, ShownWalk, SourceLine, first_of};
 use minidump_bytes::LinuxOsStr;
@@ -37,7 +37,7 @@ pub(crate) fn push_walk(
     let frames = printed_frames(alloc, page.limits, is_whole, walk)?;
     let entries = entries_in(alloc, frames.as_slice())?;
     let modules = page.crash.modules.loaded.as_slice();
-    push_entries(out, modules, entries.as_slice())?;
+    push_entries(out, page.limits.lists, modules, entries.as_slice())?;
     if is_whole {
         push_rest(out, page.limits, walk)
     } else {
@@ -123,38 +123,54 @@ fn push_calls<'l>(
 // Appends the lines of frames and calls, each with its number.
 fn push_entries<'x>(
     out: &mut String,
+    is_asked: bool,
     modules: &'x [CrashModule],
     entries: &[FrameEntry<'x>],
 ) -> Added
     ensures { Adds out.old out.new
-        (each_entry (map loaded_of modules.now) (map entry_of entries.now)) result }
+        (each_entry is_asked (map loaded_of modules.now) (map entry_of entries.now)) result }
 {
     for (number, entry) in entries.iter().enumerate() {
-        push_entry(out, modules, number, entry)?;
+        push_entry(out, is_asked, modules, number, entry)?;
     }
     Ok(())
 }
 
-// Appends the line of a frame or a call.
+// Appends the line of a frame or a call: of a frame with its other addresses, if they are asked for.
 #[rattlefmt::skip]
 #[tactic(auto, unfolding(crate::specs::Frames::entry_line))]
 fn push_entry<'x>(
     out: &mut String,
+    is_asked: bool,
     modules: &'x [CrashModule],
     number: usize,
     entry: &FrameEntry<'x>,
 ) -> Added
-    ensures { Adds out.old out.new
-        (entry_line (map loaded_of modules.now) number (entry_of entry.now) ∷ []) result }
+    ensures { Adds out.old out.new (entry_line is_asked (map loaded_of modules.now) number
+        (entry_of entry.now) ∷ []) result }
 {
-    let address = entry.frame.address.unwrap_or(entry.frame.instruction);
+    let frame = entry.frame;
+    let address = frame.address.unwrap_or(frame.instruction);
     let source = source_part(entry.source);
-    let found = found_text(entry.is_inline, entry.frame.trust);
+    let found = found_text(entry.is_inline, frame.trust);
+    let is_own = shows_pointers(is_asked, entry.is_inline);
+    let instruction = if_asked(is_own, Some(frame.instruction));
+    let stack = if_asked(is_own, Some(frame.stack_pointer));
+    let base = if_asked(is_own, frame.frame_pointer);
     push_row(out, &[
         Words("    #"), Decimal(number as u64), Words(" "), Hex(address),
         Lossy(" ", entry.function), HexIf(" + ", entry.offset), source,
-        Place(modules, " in no module", entry.frame.module), Words(found),
+        Place(modules, " in no module", frame.module), Words(found),
+        HexUnless(address, ", instruction ", instruction), HexIf(", stack pointer ", stack),
+        HexIf(", frame pointer ", base),
     ])
+}
+
+// Tells whether an entry's stack pointer and the like are printed: where they are asked for, of a frame.
+fn shows_pointers(is_asked: bool, is_inline: bool) -> bool
+    ensures { result ≡ (is_asked && not is_inline) }
+{
+    is_asked && !is_inline
 }
 
 // Returns the part that writes a source line.

@@ -5,9 +5,9 @@
 //!
 //! - `no exception`, if the dump has none;
 //! - the system with its processor and the microcode of that, the release of Linux, the arguments
-//!   with which macOS was booted, the date of the dump in UTC, the id of the process and that of
-//!   its parent, for how long it ran, how much of it was in memory, its command line, and the
-//!   comments of the dump;
+//!   with which macOS was booted, the date of the dump in UTC, the path of the program, the id of
+//!   the process and that of its parent, for how long it ran, how much of it was in memory, its
+//!   command line, and the comments of the dump;
 //! - of the exception that counts the thread, the address with its module, the reason, the code
 //!   and where it happened, and LLDB's description, which is printed in place of its flags and
 //!   parameters; why the context of the exception isn't used, how much of the registers' context
@@ -16,6 +16,8 @@
 //!   pointer, unless it is in a module and may be run, the bytes there, and the words at its
 //!   stack pointer; then, if there are several, all exceptions, each with its address, unless it
 //!   happened there, and with why its context can't be read;
+//! - the signature of the crash: its reason, and the first three frames in a module, each by its
+//!   function, else by its module and the offset in it;
 //! - what is there and can't be read, as `can't be read: ThreadListStream: StreamReadFailure`, the
 //!   modules for which their list can't be read, and how many entries of the directory have bytes
 //!   outside the file;
@@ -36,18 +38,20 @@
 //!   each kind of handles, and Linux's numbers of limits and of variables of the environment.
 //!
 //! A frame's line has its number, its address, its module with the offset in it, and how it was
-//! found. The address of a caller lies in its call, below the return address. The candidates
-//! of the stack follow the frames, numbered on.
+//! found. Where lists are asked for, its stack pointer and its frame pointer follow, and before them
+//! its instruction, if that isn't the address: of a caller its return address. The address of a
+//! caller lies in its call, below the return address. The candidates of the stack follow the frames,
+//! numbered on.
 //!
 //! By symbols the frames are those of the backtraces that they give. A frame's line has its
 //! function, with the offset in it, and its source line, where they are known. Before it comes a
 //! line for each inlined call there, with the same address, numbered too. A module's line says if
-//! its symbols are missing, damaged or another module's, or if memory ran out for them. A name that
-//! isn't UTF-8 has U+FFFD in place of what is malformed.
+//! its symbols were read, are missing, damaged or another module's, or if memory ran out for them. A
+//! name that isn't UTF-8 has U+FFFD in place of what is malformed.
 //!
 //! Where the system information, the exception, the threads or the modules are missing, that is a
-//! line, as `no exception`; any other missing stream has none. What [`TextLimits`] leaves out is
-//! told by its number alone.
+//! line, as `no exception`; any other missing stream has none. Of the frames of a thread and of the
+//! items of a list that [`TextLimits`] leaves out, the number is told.
 //!
 //! A text of the dump can't begin a line: control characters, ends of lines and marks of direction
 //! are printed as escapes, as `\u{1b}`. A backslash stays as it is, so that paths of Windows can be

@@ -2,11 +2,11 @@ ghost use Rattle.std.specs.Prelude.{◌≡◌, IfOk};
 ghost use Rattle.std.specs.Option.{option_copied, option_map};
 ghost use Rattle.crash_symbols.specs.Shown.{symbolized_of};
 ghost use Rattle.crash_lines.specs.Lines.{Adds};
-ghost use Rattle.crash_text.specs.Modules.{HasMarks, end_if, is_marked, module_at};
+ghost use Rattle.crash_text.specs.Modules.{HasMarks, is_marked, module_at};
 ghost use Rattle.crash_text.specs.Modules.{modules_lines, named_modules, symbols_text};
 ghost use Rattle.crash_text.specs.Page.{page_of};
 
-use crate::text::Page;
+use crate::text::{Page, if_asked};
 use crate::threads::frames_in;
 use crash::{AddressFacts, CrashFrame};
 use crash_lines::Part::{Hex, HexIf, Key, Version, Words};
@@ -74,7 +74,7 @@ fn push_at(out: &mut String, page: Page<'_, '_, '_, '_>, marks: &[bool], index: 
     let symbols = symbols_text(page.symbols, index);
     match page.crash.modules.loaded.get(index) {
         Some(module) if is_asked || is_named => push_row(out, &[
-            Words("    "), Hex(module.base), HexIf("-", end_if(is_asked, module.end)), Words(" "),
+            Words("    "), Hex(module.base), HexIf("-", if_asked(is_asked, module.end)), Words(" "),
             Words(module.path.as_str()), Version(&module.version),
             Key(", debug ", module.debug_file.as_ref(), &module.debug_id),
             Key(", code ", Some(&module.file), &module.code_id), Words(symbols),
@@ -83,21 +83,15 @@ fn push_at(out: &mut String, page: Page<'_, '_, '_, '_>, marks: &[bool], index: 
     }
 }
 
-// Returns the address after a module, if it is asked for.
-fn end_if(is_asked: bool, end: Option<u64>) -> Option<u64>
-    ensures { result ≡ end_if is_asked end }
-{
-    if is_asked { end } else { None }
-}
-
-// Returns the words for why the module of an index has no symbols, if they were looked for.
+// Returns the words for the symbols of the module of an index, if they were looked for.
 fn symbols_text(symbols: Option<&Symbolized<'_, '_>>, index: usize) -> &'static str
     ensures { result.now ≡ symbols_text
         (option_map symbolized_of (option_copied symbols.entry)) index }
 {
     match symbols {
         Some(known) => match known.symbols.state(index) {
-            SymbolState::Unwanted | SymbolState::Loaded => "",
+            SymbolState::Unwanted => "",
+            SymbolState::Loaded => ", symbols read",
             SymbolState::Missing => ", no symbols",
             SymbolState::Corrupt => ", symbols of another module or damaged",
             SymbolState::OutOfMemory => ", no memory for its symbols",

@@ -6,7 +6,9 @@ ghost use Rattle.minidump.specs.Below.Format.Answer.{Gives};
 ghost use Rattle.crash.specs.Crash.{crash_in, crash_of};
 ghost use Rattle.crash_symbols.specs.Shown.{symbolized_of};
 ghost use Rattle.crash_lines.specs.Escape.{is_printed};
-ghost use Rattle.crash_text.specs.Text.{text_of};
+ghost use Rattle.crash_lines.specs.Lines.{Adds};
+ghost use Rattle.crash_text.specs.Page.{if_asked};
+ghost use Rattle.crash_text.specs.Text.{signature_lines, text_of};
 
 use crate::damage::push_damage;
 use crate::limits::TextLimits;
@@ -14,8 +16,9 @@ use crate::lists::push_lists;
 use crate::modules::push_modules;
 use crate::threads::{push_crashed, push_others};
 use crash::Crash;
-use crash_lines::{push_crash, push_head, push_messages, push_none};
-use crash_symbols::Symbolized;
+use crash_lines::Part::Text;
+use crash_lines::{Added, push_crash, push_head, push_messages, push_none, push_table};
+use crash_symbols::{Symbolized, signature_of};
 use minidump::{CodeNames, Error};
 use std::alloc::{AllocError, Global};
 
@@ -25,6 +28,13 @@ pub(crate) struct Page<'l, 'a, 's, 'n> {
     pub(crate) crash: &'l Crash<'a>,
     pub(crate) limits: &'l TextLimits,
     pub(crate) symbols: Option<&'l Symbolized<'s, 'n>>,
+}
+
+// Returns a number, if it is asked for.
+pub(crate) fn if_asked(is_asked: bool, number: Option<u64>) -> Option<u64>
+    ensures { result ≡ if_asked is_asked number }
+{
+    if is_asked { number } else { None }
 }
 
 /// Makes the text of the crash of a minidump, whose bytes are `bytes`. The names of codes are those
@@ -68,9 +78,11 @@ pub fn text_of<'l>(
         limits,
         symbols,
     };
+    let signature = signature_of(alloc, crash, symbols)?;
     push_none(&mut text, crash.cause.exceptions.as_slice())?;
     push_head(&mut text, crash)?;
     push_crash(&mut text, crash)?;
+    push_signature(&mut text, &signature)?;
     push_damage(&mut text, crash)?;
     push_crashed(&mut text, page)?;
     push_messages(&mut text, &crash.contents.messages)?;
@@ -78,4 +90,13 @@ pub fn text_of<'l>(
     push_modules(&mut text, page, crash.contents.space.modules_error)?;
     push_lists(&mut text, page)?;
     Ok(text)
+}
+
+// Appends the signature of the crash, if it has one.
+#[tactic(auto, unfolding(crate::specs::Text::signature_lines))]
+fn push_signature(out: &mut String, signature: &Option<String>) -> Added
+    ensures { Adds out.old out.new
+        (signature_lines (option_map string_bytes signature.now)) result }
+{
+    push_table(out, &[&[Text("signature ", signature, "")]])
 }

@@ -5,15 +5,15 @@ ghost use Rattle.crash_threads.specs.Threads.{thread_value};
 ghost use Rattle.crash_lines.specs.Lines.{Adds};
 ghost use Rattle.crash_text.specs.Page.{page_of};
 ghost use Rattle.crash_text.specs.Threads.{crashed_lines, each_other, frames_at, frames_in};
-ghost use Rattle.crash_text.specs.Threads.{heading_lines, is_index, is_range, no_walk_row};
+ghost use Rattle.crash_text.specs.Threads.{heading_lines, is_index, is_range, no_walk_words};
 ghost use Rattle.crash_text.specs.Threads.{other_lines, own_lines, range_row, shows_all};
-ghost use Rattle.crash_text.specs.Threads.{stack_lines, thread_lines};
+ghost use Rattle.crash_text.specs.Threads.{stack_lines, thread_lines, unaccepted_row};
 
 use crate::frames::{printed_frames, push_walk};
 use crate::limits::TextLimits;
 use crate::text::Page;
-use crash::{ContextProblem, CrashFrame, CrashSystem, CrashThread, StackRange};
-use crash_lines::Part::{Hex, Id, If, Short, Text, Words};
+use crash::{ContextProblem, CrashFrame, CrashSystem, CrashThread, StackRange, unaccepted_size};
+use crash_lines::Part::{DecimalIf, Hex, Id, If, Short, Text, Words};
 use crash_lines::{Added, push_if_missing, push_row, push_table, push_text_line};
 use crash_symbols::shown_walk;
 use std::alloc::{AllocError, Global};
@@ -97,8 +97,8 @@ fn push_thread(
             push_walk(out, page, is_whole, &walk)
         }
         None => {
-            let why = no_walk_row(&page.crash.process.system, thread.context_problem);
-            push_text_line(out, why)
+            let why = no_walk_words(&page.crash.process.system, thread.context_problem);
+            push_unaccepted(out, why, thread.context_problem)
         }
     }
 }
@@ -166,21 +166,30 @@ fn push_own(out: &mut String, problem: Option<ContextProblem>) -> Added
             push_text_line(out, "    its own context is outside the file")
         }
         Some(ContextProblem::NotAccepted { .. }) => {
-            push_text_line(out, "    its own context can't be read")
+            push_unaccepted(out, "    its own context can't be read", problem)
         }
         Some(ContextProblem::NoSystem) | None => Ok(()),
     }
 }
 
-// Returns why a thread has no frames.
-fn no_walk_row(system: &Option<CrashSystem>, problem: Option<ContextProblem>) -> &'static str
-    ensures { result.now ≡ no_walk_row (option_map system_of system.now) problem }
+// Returns the words for why a thread has no frames.
+fn no_walk_words(system: &Option<CrashSystem>, problem: Option<ContextProblem>) -> &'static str
+    ensures { result.now ≡ no_walk_words (option_map system_of system.now) problem }
 {
     match (system, problem) {
         (None, _) => "    no frames without system information",
         (Some(_), Some(ContextProblem::Outside)) => "    its context is outside the file",
         (Some(_), _) => "    no context that can be read",
     }
+}
+
+// Appends words, and how many bytes there are of a context that isn't accepted.
+#[tactic(auto, unfolding(crate::specs::Threads::unaccepted_row))]
+fn push_unaccepted(out: &mut String, words: &str, problem: Option<ContextProblem>) -> Added
+    ensures { Adds out.old out.new (unaccepted_row words.now problem ∷ []) result }
+{
+    let size = unaccepted_size(problem);
+    push_row(out, &[Words(words), DecimalIf(", ", size, " bytes")])
 }
 
 // Returns the frames of all threads that are printed.

@@ -175,3 +175,10 @@ problem_in system order None = Some Outside
 problem_in None order (Some bytes) = Some NoSystem
 problem_in (Some s) order (Some bytes) =
     if is_some (context_on s order bytes) then None else Some (NotAccepted (length bytes))
+
+-- how many bytes there are of a context that isn't accepted, where there are any
+abbrev pub unaccepted_size : Option ContextProblem → Option ℕ
+unaccepted_size (Some (NotAccepted size)) = if size == 0 then None else Some size
+unaccepted_size (Some Outside) = None
+unaccepted_size (Some NoSystem) = None
+unaccepted_size None = None

@@ -1,5 +1,5 @@
 ghost use Rattle.std.specs.Prelude.{◌≡◌, IfOk, IsOkUnless, map, string_bytes};
-ghost use Rattle.std.specs.Option.{option_copied, option_map};
+ghost use Rattle.std.specs.Option.{option_and_then, option_copied, option_map};
 ghost use Rattle.minidump.specs.Below.Contexts.Context.{map_ok};
 ghost use Rattle.minidump.specs.Promise.{exception_stream, system_info_stream};
 ghost use Rattle.crash_threads.specs.Cause.{address_at, address_unless, cause_in, cause_of};
@@ -18,6 +18,7 @@ use crash_streams::{
     parameters_of, sender_of,
 };
 use minidump::{CodeNames, Error, MinidumpException, MinidumpSystemInfo};
+use minidump_bytes::as_text;
 use std::alloc::Global;
 
 /// Where and why a process crashed.
@@ -41,6 +42,14 @@ impl CrashCause {
             ≡ counted_exception (cause_of self.now) }
     {
         counted(self.exceptions.as_slice(), self.counts)
+    }
+
+    /// Returns the words for the reason of the crash, that of the exception that counts.
+    pub fn reason(&self) -> Option<&str>
+        ensures { option_copied result
+            ≡ option_and_then (λ e. e.reason) (counted_exception (cause_of self.now)) }
+    {
+        as_text(&self.counted()?.reason)
     }
 }
 

@@ -6,6 +6,7 @@ ghost use Rattle.crash_streams.specs.Contents.{contents_of};
 ghost use Rattle.crash_threads.specs.Contexts.{any_context, context_at, context_by, context_of, context_on};
 ghost use Rattle.crash_threads.specs.Contexts.{found_in, has_general, lengths, named_bytes, old_on};
 ghost use Rattle.crash_threads.specs.Contexts.{padded, problem_in, register_values, short_context, system_of};
+ghost use Rattle.crash_threads.specs.Contexts.{unaccepted_size};
 
 use crash_streams::Contents;
 use minidump::format::{CONTEXT_ARM64_OLD, MINIDUMP_LOCATION_DESCRIPTOR};
@@ -60,6 +61,17 @@ pub enum ContextProblem {
         /// How many bytes it has.
         size: usize,
     },
+}
+
+/// Returns how many bytes there are of a context that isn't accepted, if there are any.
+pub fn unaccepted_size(problem: Option<ContextProblem>) -> Option<u64>
+    ensures { result ≡ unaccepted_size problem }
+{
+    match problem {
+        Some(ContextProblem::NotAccepted { size: 0 }) => None,
+        Some(ContextProblem::NotAccepted { size }) => Some(size as u64),
+        Some(ContextProblem::Outside | ContextProblem::NoSystem) | None => None,
+    }
 }
 
 // The registers that the bytes of a context hold, and how much of it there is if it is cut.

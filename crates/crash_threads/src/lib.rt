@@ -21,7 +21,8 @@
 //!
 //! # Errors
 //!
-//! `OutOfMemory` alone, if an allocation fails. What a stream that can't be read would say is absent.
+//! If an allocation fails, `OutOfMemory`; of calls without another error, `AllocError`. What a stream
+//! that can't be read would say is absent.
 //!
 //! # What is proved
 //!
@@ -45,7 +46,7 @@ mod threads;
 
 pub use addresses::{AddressFacts, AddressMemory, RegionState};
 pub use cause::{CrashCause, CrashException, cause_of};
-pub use contexts::{ContextOrigin, ContextProblem, CrashContext, ShortContext};
+pub use contexts::{ContextOrigin, ContextProblem, CrashContext, ShortContext, unaccepted_size};
 pub use frames::{CrashFrame, CrashWalk, frame_in};
 pub use point::{CrashPoint, StackWord, point_of};
 pub use stacks::StackRange;

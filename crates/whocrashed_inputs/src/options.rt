@@ -9,10 +9,10 @@ use clap::{Arg, ArgAction, ArgMatches, Command, Error, value_parser};
 use std::alloc::{AllocError, Global};
 
 const ABOUT: &str =
-    "Prints who crashed, where, why and by whom called: for each minidump the system and the process; the thread, the
-address, the reason and the registers of the crash; what of the dump can't be read; the frames of that thread; an
-assertion, Crashpad's annotations and macOS's messages; the first frame of each other thread; and the modules that
-have the address of the crash or a printed frame, with what a symbol server is asked by.";
+    "Prints who crashed, where, why and by whom called: for each minidump the system, the program and the process; the
+thread, the address, the reason, the registers and the signature of the crash; what of the dump can't be read; the
+frames of that thread; an assertion, Crashpad's annotations and macOS's messages; the first frame of each other
+thread; and the modules that have the address of the crash or a printed frame, with what a symbol server is asked by.";
 
 const EXAMPLES: &str = "Examples:
   whocrashed crash.dmp
@@ -47,7 +47,7 @@ const OPTIONS: &[(&str, Takes, &str)] = &[
     ("only-names", Takes::Nothing(&[]), "Leave out the names of codes that are compiled in"),
     ("all-threads", Takes::Nothing(&[]), "Print all frames of each thread in the lines of text"),
     ("lists", Takes::Nothing(&[]),
-        "Print all streams, modules, regions of memory, handles and limits in the lines of text"),
+        "Print all streams, modules, regions of memory, handles and limits, and each frame's instruction, stack pointer and frame pointer, in the lines of text"),
     ("modules", Takes::Nothing(&[]), "Print all modules in the lines of text, those that were unloaded too"),
     ("handles", Takes::Nothing(&[]), "Print all handles in the lines of text"),
     ("environment", Takes::Nothing(&[]), "Print the variables of Linux's environment, which may hold secrets"),
@@ -83,7 +83,8 @@ pub struct Options<'w> {
     pub frames: usize,
     /// Whether all frames of each thread are printed.
     pub all_threads: bool,
-    /// Whether the items of all lists are printed.
+    /// Whether the items of all lists are printed, and the instruction, stack pointer and frame
+    /// pointer of each frame.
     pub lists: bool,
     /// Whether all modules are printed.
     pub modules: bool,

@@ -6,5 +6,6 @@ use Rattle.crash_json.proofs.threads.add_thread.Goals as goal
 pub returns : goal.returns
 unfolding thread_members
 returns c =
-    let members = rw (c.frame_count.ensures, c.candidate_count.ensures, c.short_context.ensures, c.end_of.ensures) at c.add.ensures in
+    let members =
+    rw (c.frame_count.ensures, c.candidate_count.ensures, c.unaccepted_size.ensures, c.short_context.ensures, c.end_of.ensures) at c.add.ensures in
     simp views (simp views at members)

@@ -8,5 +8,5 @@ use Rattle.crash_text.proofs.frames.push_entries.Given as goal
 
 abbrev pub invariant-loop-number : goal.invariant-loop-number
 invariant-loop-number l =
-    string_bytes l.out ++ flat_map line_of (map (λ p. entry_line (map loaded_of l.modules) p.0 p.1) (enumerate_from l.number (map entry_of (drop l.number l.entries))))
-    ≡ string_bytes l.fn.out ++ flat_map line_of (each_entry (map loaded_of l.modules) (map entry_of l.entries))
+    string_bytes l.out ++ flat_map line_of (map (λ p. entry_line l.is_asked (map loaded_of l.modules) p.0 p.1) (enumerate_from l.number (map entry_of (drop l.number l.entries))))
+    ≡ string_bytes l.fn.out ++ flat_map line_of (each_entry l.is_asked (map loaded_of l.modules) (map entry_of l.entries))

@@ -4,4 +4,6 @@ use Rattle.crash_text.proofs.frames.push_entry.Goals as goal
 
 pub returns : goal.returns
 unfolding entry_line
-returns c = rw (← c.unwrap_or-address.ensures, ← c.source_part-source.ensures, ← c.found_text-found.ensures) c.push_row.ensures
+returns c =
+    rw (← c.unwrap_or-address.ensures, ← c.source_part-source.ensures, ← c.found_text-found.ensures, ← c.shows_pointers-is_own.ensures, ← c.if_asked-instruction.ensures, ← c.if_asked-stack.ensures, ← c.if_asked-base.ensures)
+    c.push_row.ensures

@@ -26,10 +26,11 @@ returns c =
     (both _ _ _ _ _ (rw c.as_slice.ensures.value at c.in_ok-push_none.ensures)
     (both _ _ _ _ _ c.in_ok-push_head.ensures
     (both _ _ _ _ _ c.in_ok-push_crash.ensures
+    (both _ _ _ _ _ (rw c.in_ok-signature.ensures at c.in_ok-push_signature.ensures)
     (both _ _ _ _ _ c.in_ok-push_damage.ensures
     (both _ _ _ _ _ c.in_ok-push_crashed.ensures
     (both _ _ _ _ _ c.in_ok-push_messages.ensures
     (both _ _ _ _ _ (rw c.as_slice-2.ensures.value at c.in_ok-push_others.ensures)
-    (both _ _ _ _ _ c.in_ok-push_modules.ensures c.in_ok-push_lists.ensures))))))))
+    (both _ _ _ _ _ c.in_ok-push_modules.ensures c.in_ok-push_lists.ensures)))))))))
     in
     record { text = text; printed = rw text (lines_printed lines) }

@@ -5,4 +5,4 @@ use Rattle.crash_json.proofs.cause.CrashInfoToJson.put.Goals as goal
 
 pub returns : goal.returns
 unfolding crash_info_json
-returns c = rw (← c.reason_of.ensures, ← c.address_of.ensures, ← c.in_ok-assertion.ensures) (simp views c.put_object.ensures)
+returns c = rw (← c.reason.ensures, ← c.address_of.ensures, ← c.in_ok-assertion.ensures) (simp views c.put_object.ensures)

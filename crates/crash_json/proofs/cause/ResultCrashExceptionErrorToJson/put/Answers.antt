@@ -5,7 +5,7 @@ use Rattle.crash_json.proofs.cause.ResultCrashExceptionErrorToJson.put.Goals as 
 
 pub returns-in-Ok : goal.returns-in-Ok
 unfolding exception_json
-returns-in-Ok c = rw c.in-Ok.is (simp views c.put_object.ensures)
+returns-in-Ok c = rw c.in-Ok.is (simp views (rw c.unaccepted_size.ensures at c.put_object.ensures))
 
 pub returns-in-Err : goal.returns-in-Err
 unfolding exception_json

@@ -3,8 +3,8 @@ use Rattle.std.proofs.Common.{◌≡◌, ◌-◌, ◌++◌, drop, length, map, s
 use Rattle.std.specs.List.{filter_map}
 use Rattle.crash_process.specs.Modules.{loaded_of}
 use Rattle.crash_symbols.specs.Shown.{shown_frame_of}
-use Rattle.crash_json.specs.Signature.{mark_of}
-use Rattle.crash_json.proofs.signature.marks_in.Given as goal
+use Rattle.crash_symbols.specs.Signature.{mark_of}
+use Rattle.crash_symbols.proofs.signature.marks_in.Given as goal
 
 abbrev pub invariant-loop-frame : goal.invariant-loop-frame
 invariant-loop-frame l =

@@ -1,16 +1,15 @@
 //! The signature of a crash: why it crashed, and in which functions.
 ghost use Rattle.std.specs.Prelude.{◌≡◌, ◌++◌, IfOk, codes, flat_map, map, string_bytes};
 ghost use Rattle.std.specs.Option.{option_copied, option_map};
+ghost use Rattle.crash.specs.Crash.{crash_of};
 ghost use Rattle.crash_process.specs.Modules.{loaded_of};
-ghost use Rattle.crash_symbols.specs.Shown.{shown_frame_of};
-ghost use Rattle.crash_json.specs.ReportValue.{report_of};
-ghost use Rattle.crash_json.specs.Signature.{crashed_frames, joined, mark_of, marks_in};
-ghost use Rattle.crash_json.specs.Signature.{signature_in, with_reason};
+ghost use Rattle.crash_symbols.specs.Shown.{shown_frame_of, symbolized_of};
+ghost use Rattle.crash_symbols.specs.Signature.{crashed_frames, joined, mark_of, marks_in};
+ghost use Rattle.crash_symbols.specs.Signature.{signature_in, with_reason};
 
-use crate::cause::reason_of;
-use crate::report::Report;
-use crash::CrashModule;
-use crash_symbols::{ShownFrame, shown_walk};
+use crate::Symbolized;
+use crate::shown::{ShownFrame, shown_walk};
+use crash::{Crash, CrashModule};
 use minidump::text::Piece::{Hex, Words};
 use minidump::text::format_pieces;
 use std::alloc::{AllocError, Global};
@@ -18,34 +17,44 @@ use std::alloc::{AllocError, Global};
 // How many frames a signature has at most.
 const FRAMES: usize = 3;
 
-/// Makes the signature of a crash, if there is anything to say.
+/// Makes the signature of a crash: its reason, and the first three frames in a module of the thread
+/// that crashed, without candidates, with ` | ` between. A frame is the name of its function by
+/// `symbols`, else the file of its module and the offset in it. Crashes of one kind share it. Returns
+/// `None` if there is neither a reason nor such a frame.
+///
+/// Returns `AllocError` if an allocation fails.
 #[tactic(auto, unfolding(crate::specs::Signature::signature_in))]
-pub(crate) fn signature_in(
+pub fn signature_of(
     alloc: Global,
-    report: Report<'_, '_, '_, '_>,
+    crash: &Crash<'_>,
+    symbols: Option<&Symbolized<'_, '_>>,
 ) -> Result<Option<String>, AllocError>
-    ensures { IfOk result (λ text. option_map string_bytes text
-        ≡ signature_in (report_of report.entry)) }
+    ensures { IfOk result (λ text. option_map string_bytes text ≡ signature_in
+        (option_map symbolized_of (option_copied symbols.entry)) (crash_of crash.now)) }
 {
-    let marks = crashed_marks(alloc, report)?;
-    joined(alloc, reason_of(&report.crash.cause), marks.as_slice())
+    let marks = crashed_marks(alloc, crash, symbols)?;
+    joined(alloc, crash.cause.reason(), marks.as_slice())
 }
 
 // Makes the words for the first frames of the thread that crashed that are in a module, without its
 // candidates.
 #[tactic(auto, unfolding(crate::specs::Signature::marks_in))]
-fn crashed_marks(alloc: Global, report: Report<'_, '_, '_, '_>) -> Result<Vec<String>, AllocError>
+fn crashed_marks(
+    alloc: Global,
+    crash: &Crash<'_>,
+    symbols: Option<&Symbolized<'_, '_>>,
+) -> Result<Vec<String>, AllocError>
     ensures { IfOk result (λ marks. map string_bytes marks.items
-        ≡ marks_in (report_of report.entry).crash.modules.loaded
-        (crashed_frames (report_of report.entry))) }
+        ≡ marks_in (crash_of crash.now).modules.loaded (crashed_frames
+        (option_map symbolized_of (option_copied symbols.entry)) (crash_of crash.now))) }
 {
-    let Some((index, thread)) = report.crash.threads.crashed() else {
+    let Some((index, thread)) = crash.threads.crashed() else {
         return Ok(Vec::new(alloc));
     };
-    match shown_walk(alloc, thread, index, report.symbols)? {
+    match shown_walk(alloc, thread, index, symbols)? {
         Some(walk) => marks_in(
             alloc,
-            report.crash.modules.loaded.as_slice(),
+            crash.modules.loaded.as_slice(),
             walk.frames.as_slice(),
         ),
         None => Ok(Vec::new(alloc)),

@@ -8,9 +8,9 @@ use Rattle.minidump.specs.Below.Bytes.Piece.{hex}
 use Rattle.crash_threads.specs.Cause.{counted_exception}
 use Rattle.crash_process.specs.Modules.{LoadedValue}
 use Rattle.crash_threads.specs.Threads.{crashed_thread}
+use Rattle.crash.specs.Crash.{CrashValue}
 use Rattle.crash_symbols.specs.Names.{FunctionName, NamedFrameValue}
-use Rattle.crash_symbols.specs.Shown.{shown_in}
-use Rattle.crash_json.specs.ReportValue.{ReportValue}
+use Rattle.crash_symbols.specs.Shown.{SymbolizedValue, shown_in}
 
 -- the words for a frame: the name of its function, or where that isn't known the file of its module
 -- with the offset in it
@@ -29,9 +29,9 @@ unfoldable pub marks_in : List LoadedValue → List NamedFrameValue → List (Li
 marks_in modules frames = take 3 (filter_map (mark_of modules) frames)
 
 -- the frames of the thread that crashed, without the candidates
-abbrev pub crashed_frames : ReportValue → List NamedFrameValue
-crashed_frames r = option_map_or (λ w. w.frames)
-    (option_and_then (λ p. shown_in r.symbols p.0 p.1) (crashed_thread r.crash.threads)) []
+abbrev pub crashed_frames : Option SymbolizedValue → CrashValue → List NamedFrameValue
+crashed_frames symbols c = option_map_or (λ w. w.frames)
+    (option_and_then (λ p. shown_in symbols p.0 p.1) (crashed_thread c.threads)) []
 
 -- the reason, where there is one, and then these texts
 abbrev pub with_reason : Option (List ℕ) → List (List ℕ) → List (List ℕ)
@@ -45,7 +45,7 @@ joined (text ∷ texts) = Some (text ++ flat_map (λ t. codes " | " ++ t) texts)
 
 -- the signature of a crash: its reason, and the first three frames of the thread that crashed that
 -- are in a module
-unfoldable pub signature_in : ReportValue → Option (List ℕ)
-signature_in r =
-    joined (with_reason (option_and_then (λ e. e.reason) (counted_exception r.crash.cause))
-    (marks_in r.crash.modules.loaded (crashed_frames r)))
+unfoldable pub signature_in : Option SymbolizedValue → CrashValue → Option (List ℕ)
+signature_in symbols c =
+    joined (with_reason (option_and_then (λ e. e.reason) (counted_exception c.cause))
+    (marks_in c.modules.loaded (crashed_frames symbols c)))
