@@ -50,8 +50,9 @@
 //! name that isn't UTF-8 has U+FFFD in place of what is malformed.
 //!
 //! Where the system information, the exception, the threads or the modules are missing, that is a
-//! line, as `no exception`; any other missing stream has none. Of the frames of a thread and of the
-//! items of a list that [`TextLimits`] leaves out, the number is told.
+//! line, as `no exception`; any other missing stream has none. Where [`TextLimits`] leaves out items
+//! of a list, or frames of a thread that is printed as the one that crashed, their number is told; of
+//! the frames behind the first one of another thread it isn't.
 //!
 //! A text of the dump can't begin a line: control characters, ends of lines and marks of direction
 //! are printed as escapes, as `\u{1b}`. A backslash stays as it is, so that paths of Windows can be
