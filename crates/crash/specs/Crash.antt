@@ -11,7 +11,7 @@ use Rattle.crash.specs.declared.crash.Crash.{Crash}
 use Rattle.crash.specs.declared.damage.Damage.{Damage}
 use Rattle.crash_threads.specs.Cause.{CauseValue, cause_in, cause_of}
 use Rattle.crash_streams.specs.Contents.{ContentsValue, contents_in, contents_of}
-use Rattle.crash.specs.Damage.{counted_damage, damage_by}
+use Rattle.crash.specs.Damage.{damage_in}
 use Rattle.crash_process.specs.Directory.{DirectoryValue, directory_in, directory_of}
 use Rattle.crash_process.specs.Modules.{ModulesValue, modules_in, modules_of}
 use Rattle.crash_threads.specs.Point.{PointValue, point_in, point_of}
@@ -42,13 +42,6 @@ crash_of c = record {
   modules = modules_of c.modules;
   damage = c.damage.items;
 }
-
--- what is there and can't be read
-abbrev pub damage_in : ContentsValue → DirectoryValue → ProcessFacts → CauseValue → ThreadsValue
-    → List Damage
-damage_in c directory process cause threads = damage_by directory.entries
-    (counted_damage c directory process.comments) c.threads.exceptions cause.exceptions
-    threads.threads
 
 -- the crash of a dump with these contents
 abbrev pub crash_by : Lists → ℕ → Dump → ContentsValue → CrashValue

@@ -14,7 +14,6 @@ use Rattle.minidump.specs.Below.Records.Descriptor.{object_name_rva, type_name_r
 use Rattle.minidump.specs.Below.Records.Handles.{Handle, or_zero}
 use Rattle.minidump.specs.Below.Records.MacCrashInfo.{MacRecords}
 use Rattle.minidump.specs.Below.Records.NamedText.{lacks_text}
-use Rattle.minidump.specs.Below.Records.ThreadNames.{ThreadNames}
 use Rattle.minidump.specs.Below.System.System.{System}
 use Rattle.minidump.specs.Exception.{Exception}
 use Rattle.minidump.specs.Promise.{assertion_stream, handle_data_stream, mac_bootargs_stream}
@@ -24,11 +23,12 @@ use Rattle.crash_threads.specs.declared.contexts.ContextProblem.TheVariants.{Out
 use Rattle.crash.specs.declared.damage.Damage.{Damage}
 use Rattle.crash.specs.declared.damage.Damage.TheVariants as damage
 use Rattle.crash_process.specs.declared.directory.StreamEntry.{StreamEntry}
-use Rattle.crash_threads.specs.Cause.{ExceptionValue}
+use Rattle.crash_threads.specs.Cause.{CauseValue, ExceptionValue}
 use Rattle.crash_streams.specs.Contents.{ContentsValue}
 use Rattle.crash_process.specs.ProcessTexts.{CommentsValue}
 use Rattle.crash_process.specs.Directory.{DirectoryValue}
-use Rattle.crash_threads.specs.Threads.{ThreadValue}
+use Rattle.crash_process.specs.Process.{ProcessFacts}
+use Rattle.crash_threads.specs.Threads.{ThreadValue, ThreadsValue}
 
 -- ---- texts: none is where an entry names one by its RVA, or a surrogate of its UTF-16 lacks its partner
 
@@ -50,10 +50,6 @@ names_lacking h = one_if (lacks_text (or_zero (type_name_rva h.raw)) h.type_name
 abbrev pub handles_lacking : Result (List Handle) Error → ℕ
 handles_lacking found =
     option_map_or (λ handles. sum_by names_lacking handles) (result_ok found) 0
-
--- of the names of threads: names
-abbrev pub threads_lacking : Result ThreadNames Error → ℕ
-threads_lacking found = option_map_or (λ all. all.unreadable) (result_ok found) 0
 
 -- of an assertion: its expression, its function and its file
 abbrev pub assertion_lacking : Result MINIDUMP_ASSERTION_INFO Error → ℕ
@@ -94,7 +90,8 @@ counted_damage c directory comments =
     ∷ texts_damage system_info_stream.stream_type (system_lacking c.system.system)
     ∷ texts_damage (number_of CommentStreamW) (one_if comments.is_wide_damaged)
     ∷ texts_damage handle_data_stream.stream_type (handles_lacking c.process.handles)
-    ∷ texts_damage thread_names_stream.stream_type (threads_lacking c.threads.names)
+    ∷ texts_damage thread_names_stream.stream_type
+    (option_map_or (λ all. all.unreadable) (result_ok c.threads.names) 0)
     ∷ texts_damage assertion_stream.stream_type (assertion_lacking c.messages.assertion)
     ∷ if_any (records_lacking c.messages.mac_crash_info)
     (damage.Records mac_crash_info_stream.stream_type (records_lacking c.messages.mac_crash_info))
@@ -105,10 +102,6 @@ counted_damage c directory comments =
 abbrev pub exception_error : Result ExceptionValue Error → Option Damage
 exception_error (Ok e) = None
 exception_error (Err error) = Some (damage.Exception error)
-
--- the exceptions before the last, whose error is that of the stream
-abbrev pub before_last : List (Result ExceptionValue Error) → List (Result ExceptionValue Error)
-before_last exceptions = take (length exceptions - 1) exceptions
 
 -- how many parameters the record of an exception counts beyond the 15 that it has room for
 abbrev parameters_lacking : Exception → ℕ
@@ -140,11 +133,12 @@ context_damage t =
 abbrev pub stack_damage : ThreadValue → Option Damage
 stack_damage t = if t.is_stack_outside then Some (damage.Stack t.id) else None
 
--- all of them: streams, what is told by its number, exceptions, their parameters and contexts,
--- contexts of threads, and stacks
-abbrev pub damage_by : List StreamEntry → List (Option Damage) → List (Result Exception Error)
-    → List (Result ExceptionValue Error) → List ThreadValue → List Damage
-damage_by streams counted records exceptions threads = filter_map stream_damage streams
-    ++ filter_map (λ d. d) counted ++ filter_map exception_error (before_last exceptions)
-    ++ filter_map parameters_damage records ++ filter_map exception_damage exceptions
-    ++ filter_map context_damage threads ++ filter_map stack_damage threads
+-- all of them: streams, what is told by its number, exceptions before the last, whose error is that of the
+-- stream, their parameters and contexts, contexts of threads, and stacks
+abbrev pub damage_in : ContentsValue → DirectoryValue → ProcessFacts → CauseValue → ThreadsValue
+    → List Damage
+damage_in c directory process cause threads = filter_map stream_damage directory.entries
+    ++ filter_map (λ d. d) (counted_damage c directory process.comments)
+    ++ filter_map exception_error (take (length cause.exceptions - 1) cause.exceptions)
+    ++ filter_map parameters_damage c.threads.exceptions ++ filter_map exception_damage cause.exceptions
+    ++ filter_map context_damage threads.threads ++ filter_map stack_damage threads.threads

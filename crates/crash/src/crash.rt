@@ -4,15 +4,11 @@ ghost use Rattle.minidump.specs.Below.Contexts.Context.{map_ok};
 ghost use Rattle.minidump.specs.Below.Format.Answer.{Gives};
 ghost use Rattle.minidump.specs.Dump.{dump_in};
 ghost use Rattle.minidump.specs.DumpValue.{dump_of};
-ghost use Rattle.crash_threads.specs.Cause.{cause_of};
-ghost use Rattle.crash_streams.specs.Contents.{contents_in, contents_of};
-ghost use Rattle.crash.specs.Crash.{crash_by, crash_in, crash_of, damage_in, status_of, walked_in};
+ghost use Rattle.crash_streams.specs.Contents.{contents_in};
+ghost use Rattle.crash.specs.Crash.{crash_by, crash_in, crash_of, status_of, walked_in};
 ghost use Rattle.crash_threads.specs.Frames.{walked_of};
-ghost use Rattle.crash_process.specs.Directory.{directory_of};
-ghost use Rattle.crash_process.specs.Process.{process_of};
-ghost use Rattle.crash_threads.specs.Threads.{threads_of};
 
-use crate::damage::{Damage, counted_damage, damage_of};
+use crate::damage::{Damage, damage_of};
 use crash_process::{
     CrashDirectory, CrashModules, CrashProcess, directory_of, modules_of, process_of,
 };
@@ -109,7 +105,7 @@ fn crash_of_dump<'a>(
     let threads = threads_of(alloc, &contents, names, scan)?;
     let point = point_of(alloc, &contents, threads.code_bits, threads.crashing)?;
     let modules = modules_of(alloc, file, dump, &contents)?;
-    let damage = damage_in(alloc, &contents, &directory, &process, &cause, &threads)?;
+    let damage = damage_of(alloc, &contents, &directory, &process, &cause, &threads)?;
     Ok(Crash {
         contents,
         directory,
@@ -120,29 +116,4 @@ fn crash_of_dump<'a>(
         modules,
         damage,
     })
-}
-
-// Returns what is there and can't be read.
-fn damage_in(
-    alloc: Global,
-    contents: &Contents<'_>,
-    directory: &CrashDirectory,
-    process: &CrashProcess,
-    cause: &CrashCause,
-    threads: &CrashThreads,
-) -> Result<Vec<Damage>, Error>
-    ensures damage { IfOk result (λ damage. damage.items
-        ≡ damage_in (contents_of contents.now) (directory_of directory.now)
-        (process_of process.now) (cause_of cause.now) (threads_of threads.now)) }
-    ensures memory { IsOkUnless result Error.OutOfMemory }
-{
-    let counted = counted_damage(alloc, contents, directory, &process.comments)?;
-    Ok(damage_of(
-        alloc,
-        directory.entries.as_slice(),
-        &counted,
-        contents.threads.exceptions.as_slice(),
-        cause.exceptions.as_slice(),
-        threads.threads.as_slice(),
-    )?)
 }

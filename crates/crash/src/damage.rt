@@ -1,25 +1,23 @@
-ghost use Rattle.std.specs.Prelude.{◌≡◌, ◌-◌, ◌≤◌, IfOk, IsOkUnless, length, map, take};
+ghost use Rattle.std.specs.Prelude.{◌≡◌, ◌≤◌, IfOk, IsOkUnless};
 ghost use Rattle.std.specs.Option.{option_copied};
 ghost use Rattle.minidump.specs.Below.Contexts.Context.{map_ok};
 ghost use Rattle.minidump.specs.Below.Records.Handles.{handle_of};
 ghost use Rattle.minidump.specs.Below.Records.NamedText.{lacks_text};
 ghost use Rattle.minidump.specs.Promise.{assertion_stream, exception_stream, handle_data_stream};
-ghost use Rattle.minidump.specs.Promise.{mac_bootargs_stream, mac_crash_info_stream};
-ghost use Rattle.minidump.specs.Promise.{system_info_stream, thread_names_stream};
-ghost use Rattle.crash_threads.specs.Cause.{exception_of};
+ghost use Rattle.minidump.specs.Promise.{mac_bootargs_stream, system_info_stream};
+ghost use Rattle.crash_threads.specs.Cause.{cause_of, exception_of};
 ghost use Rattle.crash_streams.specs.Contents.{contents_of};
-ghost use Rattle.crash.specs.Damage.{assertion_lacking, boot_args_lacking, context_damage};
-ghost use Rattle.crash.specs.Damage.{counted_damage, damage_by, exception_damage, exception_error};
-ghost use Rattle.crash.specs.Damage.{handles_lacking, if_any, names_lacking, parameters_damage};
-ghost use Rattle.crash.specs.Damage.{records_lacking, stack_damage, stream_damage, system_lacking};
-ghost use Rattle.crash.specs.Damage.{texts_damage, threads_lacking};
+ghost use Rattle.crash.specs.Damage.{assertion_lacking, boot_args_lacking, context_damage, counted_damage, damage_in};
+ghost use Rattle.crash.specs.Damage.{exception_damage, exception_error, handles_lacking, if_any, names_lacking};
+ghost use Rattle.crash.specs.Damage.{parameters_damage, stack_damage, stream_damage, system_lacking, texts_damage};
 ghost use Rattle.crash_process.specs.Directory.{directory_of};
 ghost use Rattle.crash_process.specs.ProcessTexts.{comments_of};
-ghost use Rattle.crash_threads.specs.Threads.{thread_value};
+ghost use Rattle.crash_process.specs.Process.{process_of};
+ghost use Rattle.crash_threads.specs.Threads.{thread_value, threads_of};
 
-use crash_process::{Comments, CrashDirectory, StreamEntry};
+use crash_process::{Comments, CrashDirectory, CrashProcess, StreamEntry};
 use crash_streams::Contents;
-use crash_threads::{ContextProblem, CrashException, CrashThread};
+use crash_threads::{ContextProblem, CrashCause, CrashException, CrashThread, CrashThreads};
 use minidump::format::MINIDUMP_STREAM_TYPE;
 use minidump::{
     Error, MinidumpAssertion, MinidumpException, MinidumpHandleDataStream,
@@ -27,7 +25,7 @@ use minidump::{
     MinidumpSystemInfo, MinidumpThreadNames,
 };
 use minidump_bytes::as_text;
-use std::alloc::{AllocError, Global};
+use std::alloc::Global;
 
 /// Something of a dump that is there and can't be read, whether anything else stands in for it or
 /// not: a list of memory that can't be read is damage also where the other list can be, and a stack
@@ -113,41 +111,38 @@ pub enum Damage {
     },
 }
 
-// Returns what can't be read: streams, what is told by its number, exceptions, their parameters and
-// contexts, contexts of threads and stacks.
+// Returns what is there and can't be read: streams, what is told by its number, exceptions, their
+// parameters and contexts, contexts of threads and stacks.
 pub(crate) fn damage_of(
     alloc: Global,
-    streams: &[StreamEntry],
-    counted: &[Option<Damage>],
-    records: &[Result<MinidumpException<'_>, Error>],
-    exceptions: &[Result<CrashException, Error>],
-    threads: &[CrashThread],
-) -> Result<Vec<Damage>, AllocError>
-    ensures { IfOk result (λ damage. damage.items ≡ damage_by streams.now counted.now
-        (map (map_ok exception_stream.value) records.now)
-        (map (map_ok exception_of) exceptions.now) (map thread_value threads.now)) }
+    contents: &Contents<'_>,
+    directory: &CrashDirectory,
+    process: &CrashProcess,
+    cause: &CrashCause,
+    threads: &CrashThreads,
+) -> Result<Vec<Damage>, Error>
+    ensures damage { IfOk result (λ damage. damage.items
+        ≡ damage_in (contents_of contents.now) (directory_of directory.now)
+        (process_of process.now) (cause_of cause.now) (threads_of threads.now)) }
+    ensures memory { IsOkUnless result Error.OutOfMemory }
 {
-    let before = before_last(exceptions);
-    streams
+    let counted = counted_damage(alloc, contents, directory, &process.comments)?;
+    let streams = directory.entries.as_slice();
+    let records = contents.threads.exceptions.as_slice();
+    let exceptions = cause.exceptions.as_slice();
+    let before_last = &exceptions[..exceptions.len().saturating_sub(1)];
+    let threads = threads.threads.as_slice();
+    let damage: Vec<Damage> = streams
         .iter()
         .filter_map(|each| stream_damage(each))
         .chain(counted.iter().filter_map(|each| *each))
-        .chain(before.iter().filter_map(|each| exception_error(each)))
+        .chain(before_last.iter().filter_map(|each| exception_error(each)))
         .chain(records.iter().filter_map(|each| parameters_damage(each)))
         .chain(exceptions.iter().filter_map(|each| exception_damage(each)))
         .chain(threads.iter().filter_map(|each| context_damage(each)))
         .chain(threads.iter().filter_map(|each| stack_damage(each)))
-        .collect(alloc)
-}
-
-// Returns the items before the last.
-fn before_last<X>(items: &[X]) -> &[X]
-    ensures { result.now ≡ take (length items.now - 1) items.now }
-{
-    match items {
-        [before @ .., _] => before,
-        [] => items,
-    }
+        .collect(alloc)?;
+    Ok(damage)
 }
 
 // Returns a stream that can't be read.
@@ -162,7 +157,7 @@ fn stream_damage(entry: &StreamEntry) -> Option<Damage>
 
 // Returns what is told by its number: entries and regions outside the file, modules without addresses,
 // and texts and records by their streams, ascending by type.
-pub(crate) fn counted_damage(
+fn counted_damage(
     alloc: Global,
     contents: &Contents<'_>,
     directory: &CrashDirectory,
@@ -178,9 +173,11 @@ pub(crate) fn counted_damage(
     let system = system_lacking(&contents.system.system);
     let comment = u64::from(comments.is_wide_damaged);
     let handles = handles_lacking(&contents.process.handles);
-    let threads = threads_lacking(&contents.threads.names);
+    let names = &contents.threads.names;
+    let threads = names.as_ref().map_or(0, |names| names.unreadable_names());
     let assertion = assertion_lacking(alloc, &contents.messages.assertion)?;
-    let records = records_lacking(&contents.messages.mac_crash_info);
+    let info = &contents.messages.mac_crash_info;
+    let records = info.as_ref().map_or(0, |info| info.unreadable_records());
     let records_number = MinidumpMacCrashInfo::number_of_type();
     let boot_args = boot_args_lacking(&contents.messages.mac_boot_args);
     Ok([
@@ -217,21 +214,12 @@ fn texts_damage(number: u32, count: u64) -> Option<Damage>
     if_any(count, Damage::Texts { number, count })
 }
 
-// Returns how many records of macOS's crash information can't be read.
-fn records_lacking(found: &Result<MinidumpMacCrashInfo, Error>) -> u64
-    ensures { result ≡ records_lacking (map_ok mac_crash_info_stream.value found.now) }
-{
-    found.as_ref().map_or(0, |found| found.unreadable_records())
-}
-
 // Returns an exception that can't be read.
 fn exception_error(exception: &Result<CrashException, Error>) -> Option<Damage>
     ensures { result ≡ exception_error (map_ok exception_of exception.now) }
 {
-    match exception {
-        Ok(_) => None,
-        Err(error) => Some(Damage::Exception { error: *error }),
-    }
+    let error = *exception.as_ref().err()?;
+    Some(Damage::Exception { error })
 }
 
 // Returns the parameters that the record of an exception counts and has no room for, if there are any.
@@ -239,11 +227,8 @@ fn parameters_damage(exception: &Result<MinidumpException<'_>, Error>) -> Option
     ensures { result ≡ parameters_damage (map_ok exception_stream.value exception.now) }
 {
     let exception = exception.as_ref().ok()?;
-    let count = exception
-        .raw
-        .exception_record
-        .number_parameters
-        .saturating_sub(15) as u64;
+    let record = &exception.raw.exception_record;
+    let count = record.number_parameters.saturating_sub(15) as u64;
     let thread = exception.thread_id;
     if_any(count, Damage::Parameters { thread, count })
 }
@@ -252,11 +237,11 @@ fn parameters_damage(exception: &Result<MinidumpException<'_>, Error>) -> Option
 fn exception_damage(exception: &Result<CrashException, Error>) -> Option<Damage>
     ensures { result ≡ exception_damage (map_ok exception_of exception.now) }
 {
-    match exception {
-        Ok(exception) if exception.context_problem == Some(ContextProblem::Outside) => {
-            let thread = exception.thread;
-            Some(Damage::ExceptionContext { thread })
-        }
+    let exception = exception.as_ref().ok()?;
+    match exception.context_problem {
+        Some(ContextProblem::Outside) => Some(Damage::ExceptionContext {
+            thread: exception.thread,
+        }),
         _ => None,
     }
 }
@@ -303,13 +288,6 @@ fn handles_lacking(found: &Result<MinidumpHandleDataStream, Error>) -> u64
         count += names_lacking(handle);
     }
     count
-}
-
-// Returns how many names of threads can't be read.
-fn threads_lacking(names: &Result<MinidumpThreadNames, Error>) -> u64
-    ensures { result ≡ threads_lacking (map_ok thread_names_stream.value names.now) }
-{
-    names.as_ref().map_or(0, |names| names.unreadable_names())
 }
 
 // Returns how many texts of an assertion can't be read: its expression, its function and its file.

@@ -20,15 +20,13 @@
 //! what the script and a browser make of it.
 #![tactic(auto)]
 
-ghost use Rattle.std.specs.Prelude.{◌≡◌, ◌++◌, IfOk, string_bytes, true};
+ghost use Rattle.std.specs.Prelude.{◌≡◌, ◌++◌, IfOk, OnOk, encode_utf8_all, string_bytes, true};
 ghost use Rattle.std.specs.List.{list_all};
-ghost use Rattle.crash_html.specs.Page.{embedded_json, is_inert, page_with};
+ghost use Rattle.crash_html.specs.Page.{embedded_char, embedded_json, is_inert, page_with};
 
-mod embed;
 mod head;
 mod tail;
 
-use embed::push_embedded;
 use head::HEAD;
 use std::alloc::{AllocError, Global};
 use tail::TAIL;
@@ -46,12 +44,7 @@ pub fn page(alloc: Global, json: &str) -> Result<String, AllocError>
 }
 
 // Returns a text of JSON, embedded, between a head and a tail.
-fn enclose<'t>(
-    alloc: Global,
-    head: &'t str,
-    json: &'t str,
-    tail: &'t str,
-) -> Result<String, AllocError>
+fn enclose(alloc: Global, head: &str, json: &str, tail: &str) -> Result<String, AllocError>
     ensures { IfOk result (λ page. string_bytes page ≡ head.now ++ embedded_json json.now
         ++ tail.now) }
 {
@@ -60,4 +53,29 @@ fn enclose<'t>(
     push_embedded(&mut page, json)?;
     page.push_str(tail)?;
     Ok(page)
+}
+
+// Appends a text of JSON as data of a script element.
+fn push_embedded(out: &mut String, json: &str) -> Result<(), AllocError>
+    ensures { OnOk result (string_bytes out.new ≡ string_bytes out.old ++ embedded_json json.now) }
+{
+    for c in json.chars() {
+        push_char(out, c)?;
+    }
+    Ok(())
+}
+
+// Appends a character, or its escape.
+fn push_char(out: &mut String, c: char) -> Result<(), AllocError>
+    ensures { OnOk result (string_bytes out.new ≡ string_bytes out.old
+        ++ encode_utf8_all (embedded_char c)) }
+{
+    match c {
+        '<' => out.push_str("\\u003c"),
+        '>' => out.push_str("\\u003e"),
+        '&' => out.push_str("\\u0026"),
+        '\u{2028}' => out.push_str("\\u2028"),
+        '\u{2029}' => out.push_str("\\u2029"),
+        _ => out.push(c),
+    }
 }

@@ -1,3 +1,2 @@
 -- What several proofs share, those of `crash_text` too.
-pub mod EscapeLemmas
 pub mod LineLemmas

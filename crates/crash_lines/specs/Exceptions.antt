@@ -1,60 +1,102 @@
 -- The lines of the crash, and of the exceptions where there are several.
-use Rattle.std.specs.Prelude.{ℕ, ◌++◌, List, [], ◌∷◌, length, map, nat_lt, Option, Some, None}
-use Rattle.std.specs.Prelude.{Result, Ok, Err, codes, if◌then◌else◌}
+use Rattle.std.specs.Prelude.{ℕ, ◌++◌, ◌==◌, List, [], ◌∷◌, Option, Some, None, codes}
+use Rattle.std.specs.Prelude.{if◌then◌else◌, is_none, length, map, nat_lt, Result, Ok, Err}
 use Rattle.std.specs.Fmt.{decimal}
-use Rattle.std.specs.List.{concat, enumerate_from}
-use Rattle.minidump.specs.declared.Error.{Error}
+use Rattle.std.specs.List.{concat, enumerate_from, flat_map}
 use Rattle.minidump.specs.Below.Bytes.Piece.{hex}
+use Rattle.crash_streams.specs.declared.records.Access.{Access}
+use Rattle.crash_streams.specs.declared.records.Access.TheVariants.{Execute, Read, Write}
+use Rattle.crash_streams.specs.declared.records.Sender.{Sender}
 use Rattle.crash_threads.specs.declared.contexts.ContextProblem.{ContextProblem}
-use Rattle.crash_threads.specs.declared.contexts.ContextProblem.TheVariants.{NoSystem, NotAccepted, Outside}
+use Rattle.crash_threads.specs.declared.contexts.ContextProblem.TheVariants.{NoSystem, NotAccepted}
+use Rattle.crash_threads.specs.declared.contexts.ContextProblem.TheVariants.{Outside}
 use Rattle.crash_threads.specs.Cause.{ExceptionValue}
-use Rattle.crash_threads.specs.Contexts.{unaccepted_size}
+use Rattle.crash_streams.specs.Records.{signal_code_name}
+use Rattle.minidump.specs.declared.Error.{Error}
 use Rattle.crash_threads.specs.Counting.{counted}
 use Rattle.crash.specs.Crash.{CrashValue}
-use Rattle.crash_lines.specs.Addresses.{address_line}
+use Rattle.crash_lines.specs.Words.{error_words, hex_unless, id_words, or_empty, text_after}
+use Rattle.crash_lines.specs.Words.{text_if, words_or}
 use Rattle.crash_lines.specs.Lines.{if_some, table}
-use Rattle.crash_lines.specs.Point.{point_lines}
-use Rattle.crash_lines.specs.Records.{record_text}
-use Rattle.crash_lines.specs.Registers.{registers_lines}
-use Rattle.crash_lines.specs.Words.{decimal_if, error_words, hex_unless, id_words, or_empty}
-use Rattle.crash_lines.specs.Words.{text_after, text_if}
+use Rattle.crash_lines.specs.Point.{address_line, point_lines, registers_lines}
+
+-- ---- what is known of an exception beside its code and where it happened
+
+-- how memory was accessed
+abbrev pub access_words : Option Access → List ℕ
+access_words (Some Read) = codes ", access read"
+access_words (Some Write) = codes ", access write"
+access_words (Some Execute) = codes ", access execute"
+access_words None = []
+
+-- the user of the process that sent a signal
+abbrev pub user_words : Option ℕ → List ℕ
+user_words (Some user) = concat (codes ", user " ∷ decimal user ∷ [])
+user_words None = []
+
+-- the process that sent a signal, by its id
+abbrev pub process_words : Option ℕ → List ℕ
+process_words (Some id) = codes ", sent by process " ++ id_words id
+process_words None = codes ", sent by an unknown process"
+
+-- the process, its user, and how it was sent, by the name of its `si_code`
+abbrev pub sender_words : Option Sender → List ℕ
+sender_words (Some s) = process_words s.process
+    ++ (user_words s.user ++ concat (codes ", " ∷ signal_code_name s.code ∷ []))
+sender_words None = []
+
+-- a parameter after another one
+abbrev pub parameter_words : ℕ → List ℕ
+parameter_words parameter = concat (codes ", " ∷ hex parameter ∷ [])
+
+-- the parameters, where there are some
+abbrev pub parameters_words : List ℕ → List ℕ
+parameters_words [] = []
+parameters_words (first ∷ others) = concat (codes ", parameters " ∷ hex first ∷ [])
+    ++ flat_map parameter_words others
+
+-- why the context of an exception gives no registers, with its size, unless it has no bytes. That
+-- the system is unknown is said elsewhere
+abbrev pub context_words : Option ContextProblem → List ℕ
+context_words (Some Outside) = codes ", its context is outside the file"
+context_words (Some (NotAccepted size)) = if size == 0 then codes ", no context that can be read"
+    else concat (codes ", no context that can be read, " ∷ decimal size ∷ codes " bytes" ∷ [])
+context_words (Some NoSystem) = []
+context_words None = []
+
+-- what the record says beside its code and where it happened, and why the context can't be read
+abbrev pub record_text : ExceptionValue → List ℕ
+record_text e = hex_unless 0 (codes ", flags ") (Some e.flags)
+    ++ (hex_unless 0 (codes ", nested record at ") (Some e.nested)
+    ++ (access_words e.access ++ (sender_words e.sender
+    ++ (parameters_words e.parameters ++ context_words e.context_problem))))
 
 -- ---- the crash
 
--- the reason of an exception, its code with where it happened and what else its record says, and
--- LLDB's description of it
-unfoldable pub cause_lines : ExceptionValue → List (List ℕ)
-cause_lines e = table (
+-- the crash, by the exception that counts: the thread that crashed, the address of the crash, the reason,
+-- the code with the record, LLDB's description, the registers, and where that thread stands
+unfoldable pub counted_lines : CrashValue → ExceptionValue → List (List ℕ)
+counted_lines c e = concat (codes "crashed thread " ∷ id_words e.thread ∷ [])
+    ∷ (if_some (λ a. address_line c [] (codes "address") [] a ∷ []) c.cause.address
+    ++ (table (
     (text_if (codes "reason  ") e.reason [] ∷ [])
     ∷ (codes "code    " ∷ hex e.code ∷ codes " at " ∷ hex e.at ∷ record_text e ∷ [])
     ∷ (text_if (codes "description ") e.description [] ∷ [])
     ∷ [])
-
--- the crash, by the exception that counts: the thread that crashed, the address of the crash, the
--- reason with the record, the registers, and where that thread stands
-unfoldable pub counted_lines : CrashValue → ExceptionValue → List (List ℕ)
-counted_lines c e = concat (codes "crashed thread " ∷ id_words e.thread ∷ [])
-    ∷ (if_some (λ a. address_line c [] (codes "address") [] a ∷ []) c.cause.address
-    ++ (cause_lines e ++ (registers_lines c e ++ point_lines c)))
+    ++ (registers_lines c ++ point_lines c)))
 
 -- ---- the exceptions
 
--- why the context of an exception can't be read. That the system is unknown is said elsewhere
-abbrev pub context_words : Option ContextProblem → List ℕ
-context_words (Some Outside) = codes ", its context is outside the file"
-context_words (Some (NotAccepted size)) = codes ", no context that can be read"
-context_words (Some NoSystem) = []
-context_words None = []
-
 -- the line of an exception with its number: its thread, its code, where it happened, its address
--- where that is another, the reason, what else its record and LLDB say, and why its context can't be
--- read, with its size; or why the exception can't be
+-- where that is another or there is none, the reason, LLDB's description, and what else is known of
+-- it; or why it can't be read
 unfoldable pub exception_line : ℕ → Result ExceptionValue Error → List ℕ
 exception_line number (Ok e) = concat (codes "    #" ∷ decimal number
     ∷ codes " thread " ∷ id_words e.thread ∷ codes ", code " ∷ hex e.code ∷ codes " at " ∷ hex e.at
-    ∷ hex_unless e.at (codes ", address ") e.address ∷ text_after (codes ", ") (or_empty e.reason)
-    ∷ record_text e ∷ text_if (codes ", ") e.description [] ∷ context_words e.context_problem
-    ∷ decimal_if (codes ", ") (unaccepted_size e.context_problem) (codes " bytes") ∷ [])
+    ∷ hex_unless e.at (codes ", address ") e.address
+    ∷ words_or (is_none e.address) (codes ", no address") []
+    ∷ text_after (codes ", ") (or_empty e.reason) ∷ text_if (codes ", ") e.description []
+    ∷ record_text e ∷ [])
 exception_line number (Err error) = concat (codes "    #" ∷ decimal number
     ∷ codes " can't be read" ∷ error_words (Some error) ∷ [])
 

@@ -1,9 +1,8 @@
 -- The lines of what the process itself said of the crash: an assertion, Crashpad's annotations,
 -- macOS's crash information and Mozilla's soft errors.
-use Rattle.std.specs.Prelude.{ℕ, ◌++◌, ◌==◌, ◌||◌, Bool, List, [], ◌∷◌, length, map, nat_lt}
-use Rattle.std.specs.Prelude.{codes, if◌then◌else◌}
+use Rattle.std.specs.Prelude.{ℕ, ◌++◌, ◌==◌, List, [], ◌∷◌, codes, if◌then◌else◌, map}
 use Rattle.std.specs.Fmt.{decimal}
-use Rattle.std.specs.List.{concat, flat_map}
+use Rattle.std.specs.List.{concat, enumerate_from, flat_map}
 use Rattle.minidump.specs.declared.format.MINIDUMP_ASSERTION_INFO.{MINIDUMP_ASSERTION_INFO}
 use Rattle.minidump.specs.declared.format.MINIDUMP_CRASHPAD_INFO.{MINIDUMP_CRASHPAD_INFO}
 use Rattle.minidump.specs.Below.Format.Guid.{guid_text}
@@ -34,31 +33,26 @@ assertion_line a = concat (codes "assertion " ∷ kind_words a._type
 unfoldable pub unnamed_row : List ℕ → List ℕ
 unnamed_row text = concat (codes "annotation " ∷ text ∷ [])
 
--- the line of an annotation: its name and its text
-unfoldable pub annotation_row : List ℕ × List ℕ → List ℕ
-annotation_row e = concat (codes "annotation " ∷ e.0 ∷ codes " = " ∷ e.1 ∷ [])
+-- the line of an annotation after words: its name and its text
+unfoldable pub annotation_row : List ℕ → List ℕ × List ℕ → List ℕ
+annotation_row what e = concat (what ∷ e.0 ∷ codes " = " ∷ e.1 ∷ [])
 
--- the line of one that has a type
+-- that of an annotation of a dictionary
+abbrev pub simple_row : List ℕ × List ℕ → List ℕ
+simple_row e = annotation_row (codes "annotation ") e
+
+-- that of one that has a type
 abbrev pub object_row : List ℕ × Annotation → List ℕ
-object_row e = annotation_row (e.0, annotation_text e.1)
-
--- the annotations of a module: its list of texts, its dictionary, and those that have a type
-abbrev pub annotation_lines : Module → List (List ℕ)
-annotation_lines m = map unnamed_row m.list_annotations
-    ++ (map annotation_row m.simple_annotations ++ map object_row m.annotation_objects)
-
--- whether a module has annotations
-abbrev pub has_annotations : Module → Bool
-has_annotations m = nat_lt 0 (length m.list_annotations)
-    || (nat_lt 0 (length m.simple_annotations) || nat_lt 0 (length m.annotation_objects))
+object_row e = annotation_row (codes "object annotation ") (e.0, annotation_text e.1)
 
 -- the line before the annotations of a module, by its index in the list of modules of the file
 unfoldable pub module_row : ℕ → List ℕ
 module_row index = concat (codes "annotations of module " ∷ decimal index ∷ [])
 
--- the lines of a module, where it has annotations
+-- a module, and its annotations: its list of texts, its dictionary, and those that have a type
 abbrev pub module_lines : Module → List (List ℕ)
-module_lines m = if has_annotations m then module_row m.module_index ∷ annotation_lines m else []
+module_lines m = module_row m.module_index ∷ (map unnamed_row m.list_annotations
+    ++ (map simple_row m.simple_annotations ++ map object_row m.annotation_objects))
 
 -- the line of the identifiers of Crashpad's report and of its client
 unfoldable pub report_line : MINIDUMP_CRASHPAD_INFO → List ℕ
@@ -68,12 +62,13 @@ report_line raw = concat (codes "Crashpad report " ∷ guid_text raw.report_id
 -- the identifiers, the annotations of the process, and then those of each module
 abbrev pub crashpad_lines : Crashpad → List (List ℕ)
 crashpad_lines c = report_line c.raw
-    ∷ (map annotation_row c.simple_annotations ++ flat_map module_lines c.module_list)
+    ∷ (map simple_row c.simple_annotations ++ flat_map module_lines c.module_list)
 
--- a record of macOS's crash information: its texts and its numbers, where it has them
-unfoldable pub record_lines : MacRecord → List (List ℕ)
-record_lines r = table (
-    (text_if (codes "macOS module: ") (text_of (λ t. t.module_path) r) [] ∷ [])
+-- a record of macOS's crash information, by its number: its texts and its numbers, where it has them
+unfoldable pub record_lines : ℕ → MacRecord → List (List ℕ)
+record_lines number r = table (
+    (codes "macOS record " ∷ decimal number ∷ [])
+    ∷ (text_if (codes "macOS module: ") (text_of (λ t. t.module_path) r) [] ∷ [])
     ∷ (text_if (codes "macOS message: ") (text_of (λ t. t.message) r) [] ∷ [])
     ∷ (text_if (codes "macOS second message: ") (text_of (λ t. t.message2) r) [] ∷ [])
     ∷ (text_if (codes "macOS signature: ") (text_of (λ t. t.signature_string) r) [] ∷ [])
@@ -83,9 +78,13 @@ record_lines r = table (
     ∷ (hex_if (codes "macOS abort cause ") (mac.abort_cause r) ∷ [])
     ∷ [])
 
+-- the records
+abbrev pub mac_lines : List MacRecord → List (List ℕ)
+mac_lines records = flat_map (λ r. record_lines r.0 r.1) (enumerate_from 0 records)
+
 -- all that the process said
 abbrev pub messages_lines : MessageStreamValues → List (List ℕ)
 messages_lines m = if_ok (λ a. assertion_line a ∷ []) m.assertion
     ++ (if_ok crashpad_lines m.crashpad
-    ++ (if_ok (λ all. flat_map record_lines all.records) m.mac_crash_info
+    ++ (if_ok (λ all. mac_lines all.records) m.mac_crash_info
     ++ if_ok (λ t. concat (codes "soft errors " ∷ t ∷ []) ∷ []) m.soft_errors))

@@ -13,18 +13,17 @@ use Rattle.crash_process.specs.Modules.{loaded_of}
 use Rattle.crash_lines.specs.declared.parts.Part.{Part}
 use Rattle.crash_lines.specs.declared.parts.Part.TheVariants.{Code, Count, Cpu, Decimal, DecimalIf}
 use Rattle.crash_lines.specs.declared.parts.Part.TheVariants.{Failed, Flags, Guid, Hex, HexIf}
-use Rattle.crash_lines.specs.declared.parts.Part.TheVariants.{HexUnless, Id, If, Key, Lossy, Memory}
-use Rattle.crash_lines.specs.declared.parts.Part.TheVariants.{Names, Os, Place, Record, Registers}
-use Rattle.crash_lines.specs.declared.parts.Part.TheVariants.{Line, Said, Short, Stream, Text}
-use Rattle.crash_lines.specs.declared.parts.Part.TheVariants.{TextAfter, Units, Version, Words}
-use Rattle.crash_lines.specs.Addresses.{memory_words}
-use Rattle.crash_lines.specs.Point.{code_at, flag_words, names_after}
-use Rattle.crash_lines.specs.Records.{record_text}
-use Rattle.crash_lines.specs.Registers.{register_words, short_if}
+use Rattle.crash_lines.specs.declared.parts.Part.TheVariants.{HexUnless, Id, If, Key, Line, Lossy}
+use Rattle.crash_lines.specs.declared.parts.Part.TheVariants.{Memory, Names, Os, Place, Record}
+use Rattle.crash_lines.specs.declared.parts.Part.TheVariants.{Registers, Said, Short, Stream, Text}
+use Rattle.crash_lines.specs.declared.parts.Part.TheVariants.{TextAfter, Units, Words}
+use Rattle.crash_lines.specs.Point.{code_at, flag_words, memory_words, names_after, register_words}
+use Rattle.crash_lines.specs.Point.{short_if}
+use Rattle.crash_lines.specs.Exceptions.{record_text}
 use Rattle.crash_lines.specs.System.{system_name}
-use Rattle.crash_lines.specs.Words.{count_if, decimal_if, error_words, hex_if, hex_unless}
-use Rattle.crash_lines.specs.Words.{id_if, lossy_if, or_empty, place_text, text_after, text_if}
-use Rattle.crash_lines.specs.Words.{key_text, line_text, stream_text, version_text, words_or}
+use Rattle.crash_lines.specs.Words.{count_if, decimal_if, error_words, hex_if, hex_unless, id_if}
+use Rattle.crash_lines.specs.Words.{key_text, line_text, lossy_if, or_empty, place_text}
+use Rattle.crash_lines.specs.Words.{stream_text, text_after, text_if, words_or}
 
 -- what a part of a row writes
 abbrev pub part_text : Part → List ℕ
@@ -49,9 +48,7 @@ part_text (Os os) = system_name os
 part_text (Cpu cpu) = cpu_name cpu
 part_text (Stream number) = stream_text number
 part_text (Failed error) = error_words error
-part_text (Version version) = version_text (option_map string_bytes version.now)
-part_text (Key words file id) = key_text words.now (option_map string_bytes (option_copied file))
-    (option_map string_bytes id.now)
+part_text (Key words file id) = key_text words.now file.now (option_map string_bytes id.now)
 part_text (Place modules nowhere place) = place_text (map loaded_of modules.now) nowhere.now place
 part_text (Memory memory) = memory_words memory
 part_text (Record exception) = record_text (exception_of exception.now)

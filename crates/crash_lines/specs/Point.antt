@@ -1,18 +1,117 @@
--- The lines of where the thread that crashed stands.
-use Rattle.std.specs.Prelude.{ℕ, ◌++◌, ◌&&◌, Bool, true, List, [], ◌∷◌, codes, is_some, map}
-use Rattle.std.specs.Prelude.{if◌then◌else◌}
+-- The lines of where the thread that crashed stands: an address, the registers, the code and the words
+-- of the stack.
+use Rattle.std.specs.Prelude.{ℕ, List, [], ◌∷◌, codes, not, slice_get, Option, Some, None, ◌++◌}
+use Rattle.std.specs.Prelude.{map, min, if◌then◌else◌, is_some, ◌&&◌, Bool, true, length, nat_lt}
 use Rattle.std.specs.List.{concat, flat_map, list_any}
-use Rattle.std.specs.Option.{option_map_or}
-use Rattle.minidump.specs.Below.Bytes.Piece.{hex, wide_hex}
+use Rattle.std.specs.Option.{option_and_then, option_map, option_map_or}
+use Rattle.std.specs.Fmt.{decimal}
+use Rattle.minidump.specs.Below.Bytes.Piece.{hex, left, wide_hex}
 use Rattle.crash_threads.specs.declared.addresses.AddressFacts.{AddressFacts}
+use Rattle.crash_threads.specs.declared.addresses.AddressMemory.{AddressMemory}
+use Rattle.crash_threads.specs.declared.addresses.RegionState.{RegionState}
+use Rattle.crash_threads.specs.declared.addresses.RegionState.TheVariants.{Committed, Free}
+use Rattle.crash_threads.specs.declared.addresses.RegionState.TheVariants.{Reserved}
+use Rattle.crash.specs.Crash.{CrashValue}
+use Rattle.minidump.specs.Below.Contexts.Register.{register_text}
+use Rattle.crash_threads.specs.declared.contexts.ContextOrigin.{ContextOrigin}
+use Rattle.crash_threads.specs.declared.contexts.ContextOrigin.TheVariants.{OfException, OfThread}
+use Rattle.crash_threads.specs.declared.contexts.ShortContext.{ShortContext}
+use Rattle.crash_threads.specs.Contexts.{ContextValue}
+use Rattle.crash_threads.specs.Threads.{crashed_thread}
 use Rattle.crash_threads.specs.declared.point.StackWord.{StackWord}
 use Rattle.crash_threads.specs.Addresses.{is_placed}
-use Rattle.crash.specs.Crash.{CrashValue}
 use Rattle.crash_process.specs.Modules.{LoadedValue}
 use Rattle.crash_threads.specs.Point.{PointValue}
-use Rattle.crash_lines.specs.Addresses.{address_line}
+use Rattle.crash_lines.specs.Words.{hex_if, id_if, place_text, text_if, words_or}
 use Rattle.crash_lines.specs.Lines.{if_some, table}
-use Rattle.crash_lines.specs.Words.{place_text}
+
+-- ---- an address
+
+-- the path of the unloaded module of an index
+abbrev pub unloaded_path : CrashValue → Option ℕ → Option (List ℕ)
+unloaded_path c index =
+    option_map (λ m. m.path) (option_and_then (slice_get c.modules.unloaded) index)
+
+-- the id of the thread of an index
+abbrev pub thread_id : CrashValue → Option ℕ → Option ℕ
+thread_id c index = option_map (λ t. t.id) (option_and_then (slice_get c.threads.threads) index)
+
+-- a letter for each right of memory, a dash for each that is absent, and whether it is guarded
+abbrev pub rights_words : AddressMemory → List ℕ
+rights_words m = concat (codes ", memory " ∷ words_or m.is_readable (codes "r") (codes "-")
+    ∷ words_or m.is_writable (codes "w") (codes "-")
+    ∷ words_or m.is_executable (codes "x") (codes "-")
+    ∷ words_or m.is_guarded (codes " guarded") [] ∷ [])
+
+-- its memory, by the state and then by the rights
+abbrev pub state_words : RegionState → AddressMemory → List ℕ
+state_words Free m = codes ", memory free"
+state_words Reserved m = codes ", memory reserved"
+state_words Committed m = rights_words m
+
+-- the same, where it is known which memory contains the address
+abbrev pub memory_words : Option AddressMemory → List ℕ
+memory_words (Some m) = state_words m.state m
+memory_words None = []
+
+-- the line of an address after its name: its module and the offset in it, or these words where no
+-- module has it; how far it is from 0, where it is near; that it isn't canonical; the unloaded
+-- module that contained it, the threads in and below whose stacks it lies, and its memory
+unfoldable pub address_line : CrashValue → List ℕ → List ℕ → List ℕ → AddressFacts → List ℕ
+address_line c indent name nowhere a = concat (indent ∷ name ∷ codes " " ∷ hex a.address
+    ∷ place_text c.modules.loaded nowhere a.«module» ∷ hex_if (codes ", null + ") a.null_offset
+    ∷ words_or (not a.is_canonical) (codes ", not canonical") []
+    ∷ text_if (codes ", in unloaded ") (unloaded_path c a.unloaded) []
+    ∷ id_if (codes ", in the stack of thread ") (thread_id c a.stack_of)
+    ∷ id_if (codes ", below the stack of thread ") (thread_id c a.below_stack)
+    ∷ memory_words a.memory ∷ [])
+
+-- ---- the registers
+
+-- the words for a register of `size` bytes: its name in three columns, and its value with two
+-- digits for each byte, of at most 8
+abbrev pub register_words : ℕ → List ℕ × ℕ → List ℕ
+register_words size r = concat (codes "  " ∷ left 3 r.0 ∷ codes " "
+    ∷ register_text (min size 8) r.1 ∷ [])
+
+-- the line of a row of registers
+unfoldable pub register_row : ℕ → List (List ℕ × ℕ) → List ℕ
+register_row size row = concat (codes "  " ∷ flat_map (register_words size) row ∷ [])
+
+-- rows of four; the last one may be shorter
+abbrev pub rows : {X : Type 0} → List X → List (List X)
+rows (a ∷ b ∷ c ∷ d ∷ rest) = (a ∷ b ∷ c ∷ d ∷ []) ∷ rows rest
+rows [] = []
+rows few = few ∷ []
+
+-- how much there is of a context, where it is cut, after words
+abbrev pub short_if : List ℕ → Option ShortContext → List ℕ
+short_if words (Some s) = concat (words ∷ codes "context of " ∷ decimal s.size ∷ codes " of "
+    ∷ decimal s.whole ∷ codes " bytes" ∷ [])
+short_if words None = []
+
+-- whose registers they are
+abbrev pub heading_of : ContextOrigin → List ℕ
+heading_of OfException = codes "registers at the exception"
+heading_of OfThread = codes "registers of the thread when the dump was written"
+
+-- the line of whose registers they are, and how much of their context there is, where it is cut
+unfoldable pub heading_row : ContextOrigin → Option ShortContext → List ℕ
+heading_row origin short =
+    concat (heading_of origin ∷ short_if (codes ", from a ") short ∷ [])
+
+-- the registers of a context, or that there are none that can be read
+abbrev pub known_lines : Option ContextValue → List (List ℕ)
+known_lines (Some c) = heading_row c.origin c.short ∷ map (register_row c.size) (rows c.registers)
+known_lines None = codes "no registers that can be read" ∷ []
+
+-- the context of the thread that crashed
+abbrev pub crashed_context : CrashValue → Option ContextValue
+crashed_context c = option_and_then (λ t. t.1.context) (crashed_thread c.threads)
+
+-- the registers of that, and nothing without the system, which says how to read a context
+abbrev pub registers_lines : CrashValue → List (List ℕ)
+registers_lines c = if is_some c.process.system then known_lines (crashed_context c) else []
 
 -- ---- the flags
 
@@ -29,27 +128,28 @@ abbrev pub names_after : List ℕ → List (List ℕ) → List ℕ
 names_after words [] = []
 names_after words (name ∷ names) = words ++ flat_map set_words (name ∷ names)
 
--- the line of the flags and the segments, and that of the flags that are set, where there are any
-unfoldable pub flags_lines : List (List ℕ × ℕ) → List (List ℕ) → List (List ℕ)
-flags_lines flags set = table (
-    (codes "  " ∷ flat_map flag_words flags ∷ [])
-    ∷ (names_after (codes "    flags set:") set ∷ [])
+-- a value of registers lies in a module or a stack
+abbrev pub has_placed : List (List ℕ × AddressFacts) → Bool
+has_placed registers = list_any (λ r. is_placed r.1) registers
+
+-- the line of the flags and the segments, that of the flags that are set, where there are any, and the
+-- heading of the registers whose values lie in a module or a stack, where there are any
+unfoldable pub flags_and_heading : PointValue → List (List ℕ)
+flags_and_heading p = table (
+    (codes "  " ∷ flat_map flag_words p.flags ∷ [])
+    ∷ (names_after (codes "    flags set:") p.set_flags ∷ [])
+    ∷ (words_or (has_placed p.registers) (codes "registers in a module or a stack") [] ∷ [])
     ∷ [])
 
--- ---- the registers
+-- ---- the registers in a module or a stack
 
 -- the line of a register, where its value lies in a module or a stack
 abbrev pub placed_lines : CrashValue → List ℕ × AddressFacts → List (List ℕ)
 placed_lines c r = if is_placed r.1 then address_line c (codes "    ") r.0 [] r.1 ∷ [] else []
 
--- the heading of those registers, where there are any
-abbrev pub placed_heading : List (List ℕ × AddressFacts) → List (List ℕ)
-placed_heading registers = if list_any (λ r. is_placed r.1) registers
-    then codes "registers in a module or a stack" ∷ [] else []
-
--- the registers whose values lie there, after their heading
-unfoldable pub placed_registers : CrashValue → List (List ℕ × AddressFacts) → List (List ℕ)
-placed_registers c registers = placed_heading registers ++ flat_map (placed_lines c) registers
+-- the flags, and the registers whose values lie there
+abbrev pub processor_lines : CrashValue → PointValue → List (List ℕ)
+processor_lines c p = flags_and_heading p ++ flat_map (placed_lines c) p.registers
 
 -- ---- the instruction pointer
 
@@ -75,9 +175,12 @@ code_at address [] = []
 code_at address (b ∷ bs) = concat (codes "bytes at " ∷ hex address ∷ codes ":"
     ∷ flat_map byte_words (b ∷ bs) ∷ [])
 
--- the line of them
-unfoldable pub code_lines : ℕ → List ℕ → List (List ℕ)
-code_lines address code = table ((code_at address code ∷ []) ∷ [])
+-- the line of the bytes at the instruction pointer, and the heading of the words, where there are any
+unfoldable pub code_and_heading : PointValue → List (List ℕ)
+code_and_heading p = table (
+    (code_at p.instruction.address p.code ∷ [])
+    ∷ (words_or (nat_lt 0 (length p.words)) (codes "words at the stack pointer") [] ∷ [])
+    ∷ [])
 
 -- ---- the words
 
@@ -86,23 +189,11 @@ unfoldable pub word_line : List LoadedValue → StackWord → List ℕ
 word_line modules w = concat (codes "    " ∷ hex w.address ∷ codes " " ∷ hex w.value
     ∷ place_text modules [] w.«module» ∷ [])
 
--- the words of a stack, after a heading where there are any
-abbrev pub words_lines : List LoadedValue → List StackWord → List (List ℕ)
-words_lines modules [] = []
-words_lines modules (w ∷ ws) =
-    codes "words at the stack pointer" ∷ map (word_line modules) (w ∷ ws)
-
--- ---- all of it
-
--- the flags and the registers
-abbrev pub processor_lines : CrashValue → PointValue → List (List ℕ)
-processor_lines c p = flags_lines p.flags p.set_flags ++ placed_registers c p.registers
-
--- the instruction pointer, the code and the words
-abbrev pub memory_lines : CrashValue → PointValue → List (List ℕ)
-memory_lines c p = instruction_lines c p.instruction
-    ++ (code_lines p.instruction.address p.code ++ words_lines c.modules.loaded p.words)
+-- the code, and the words of the stack
+abbrev pub memory_lines : List LoadedValue → PointValue → List (List ℕ)
+memory_lines modules p = code_and_heading p ++ map (word_line modules) p.words
 
 -- where the thread that crashed stands
 abbrev pub point_lines : CrashValue → List (List ℕ)
-point_lines c = if_some (λ p. processor_lines c p ++ memory_lines c p) c.point
+point_lines c = if_some (λ p. processor_lines c p
+    ++ (instruction_lines c p.instruction ++ memory_lines c.modules.loaded p)) c.point

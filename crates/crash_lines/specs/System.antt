@@ -1,7 +1,8 @@
 -- The lines of the system, of the date of the dump, of the program, and of the process.
-use Rattle.std.specs.Prelude.{ℕ, ◌==◌, ◌++◌, List, [], ◌∷◌, codes, if◌then◌else◌}
+use Rattle.std.specs.Prelude.{ℕ, ◌==◌, ◌++◌, List, [], ◌∷◌, codes, if◌then◌else◌, Option, slice_get}
 use Rattle.std.specs.Fmt.{decimal}
 use Rattle.std.specs.List.{concat}
+use Rattle.std.specs.Option.{option_map}
 use Rattle.minidump.specs.Below.Records.BootArgs.{BootArgs}
 use Rattle.minidump.specs.declared.MinidumpBreakpadInfo.{MinidumpBreakpadInfo}
 use Rattle.minidump.specs.declared.system_info.Os.{Os}
@@ -11,8 +12,7 @@ use Rattle.minidump.specs.Below.System.Cpu.{cpu_name}
 use Rattle.minidump.specs.Below.System.Dates.{date_text_of}
 use Rattle.minidump.specs.Below.System.Os.{os_name}
 use Rattle.crash.specs.Crash.{CrashValue}
-use Rattle.crash_process.specs.Modules.{LoadedValue}
-use Rattle.crash_process.specs.Process.{ProcessFacts, SystemValue}
+use Rattle.crash_process.specs.Process.{SystemValue}
 use Rattle.crash_process.specs.Release.{ReleaseValue}
 use Rattle.crash_lines.specs.Lines.{if_ok, if_some, table}
 use Rattle.crash_lines.specs.Words.{decimal_if, id_if, missing_lines, or_empty, text_after, text_if}
@@ -57,26 +57,22 @@ breakpad_lines b = table (
     ∷ (id_if (codes "dump written by thread ") b.dump_thread_id ∷ [])
     ∷ [])
 
--- the line of a program, by the path of its module
-unfoldable pub program_row : LoadedValue → List ℕ
-program_row m = concat (codes "program " ∷ m.path ∷ [])
+-- the path of the program, which is the first of the modules
+abbrev pub program_in : CrashValue → Option (List ℕ)
+program_in c = option_map (λ m. m.path) (slice_get c.modules.loaded 0)
 
--- the program of these modules, which is the first of them
-abbrev pub program_lines : List LoadedValue → List (List ℕ)
-program_lines [] = []
-program_lines (m ∷ ms) = program_row m ∷ []
-
--- the process: its id and that of its parent, for how long it ran, how much of it was in memory,
--- and its command line; and the comments of the dump
-unfoldable pub process_lines : ProcessFacts → List (List ℕ)
-process_lines p = table (
-    (id_if (codes "process ") p.id ∷ [])
+-- the program, and the process: its id and that of its parent, for how long it ran, how much of it was
+-- in memory, and its command line; and the comments of the dump
+unfoldable pub process_lines : CrashValue → List (List ℕ)
+process_lines c = let p = c.process in table (
+    (text_if (codes "program ") (program_in c) [] ∷ [])
+    ∷ (id_if (codes "process ") p.id ∷ [])
     ∷ (id_if (codes "parent  ") p.parent ∷ [])
     ∷ (decimal_if (codes "uptime  ") p.uptime (codes " s") ∷ [])
     ∷ (decimal_if (codes "resident ") p.resident (codes " bytes") ∷ [])
     ∷ (text_if (codes "command ") p.command_line [] ∷ [])
     ∷ (text_if (codes "comment ") p.comments.narrow [] ∷ [])
-    ∷ (text_if (codes "comment ") p.comments.wide [] ∷ [])
+    ∷ (text_if (codes "wide comment ") p.comments.wide [] ∷ [])
     ∷ [])
 
 -- all of them, or that the system information is missing
@@ -85,5 +81,4 @@ head_lines c = if_some system_lines c.process.system
     ++ (missing_lines (codes "no system information") c.contents.system.system
     ++ (if_some (λ r. release_line r ∷ []) c.process.release
     ++ (if_ok boot_lines c.contents.messages.mac_boot_args ++ (date_lines c.directory.written
-    ++ (if_ok breakpad_lines c.contents.system.breakpad ++ (program_lines c.modules.loaded
-    ++ process_lines c.process))))))
+    ++ (if_ok breakpad_lines c.contents.system.breakpad ++ process_lines c)))))

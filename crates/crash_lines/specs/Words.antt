@@ -1,6 +1,6 @@
 -- Words of lines.
 use Rattle.std.specs.Prelude.{ℕ, Bool, List, [], ◌∷◌, Option, Some, None, Result, Ok, Err, codes}
-use Rattle.std.specs.Prelude.{if◌then◌else◌, ◌++◌, ◌==◌, bytes_eq, slice_get, unwrap_or}
+use Rattle.std.specs.Prelude.{if◌then◌else◌, ◌++◌, ◌==◌, slice_get, unwrap_or}
 use Rattle.std.specs.Fmt.{decimal}
 use Rattle.std.specs.List.{concat}
 use Rattle.std.specs.Option.{option_map_or}
@@ -97,27 +97,20 @@ abbrev pub missing_lines : {V : Type 0} → List ℕ → Result V Error → List
 missing_lines words (Ok _) = []
 missing_lines words (Err e) = if_missing words e
 
--- ---- the words for a stream, a module and a source line
+-- ---- the words for a stream, a file and a source line
 
 -- the words for the stream of a type: its name, or `stream` and its number where it has none
 abbrev pub stream_text : ℕ → List ℕ
 stream_text number = option_map_or type_name (stream_type_of number)
     (concat (codes "stream " ∷ hex number ∷ []))
 
--- the words for the name of a file and an identifier, where there are both
-abbrev pub key_text : List ℕ → Option (List ℕ) → Option (List ℕ) → List ℕ
-key_text label (Some file) (Some id) = concat (label ∷ file ∷ codes "/" ∷ id ∷ [])
-key_text label (Some file) None = []
-key_text label None id = []
+-- the words for the name of a file and its identifier, where it has one
+abbrev pub key_text : List ℕ → List ℕ → Option (List ℕ) → List ℕ
+key_text label file (Some id) = concat (label ∷ file ∷ codes "/" ∷ id ∷ [])
+key_text label file None = []
 
--- the words for a version, where there is one; 0.0.0.0 says nothing
-abbrev pub version_text : Option (List ℕ) → List ℕ
-version_text (Some version) = if bytes_eq version (codes "0.0.0.0") then []
-    else concat (codes ", version " ∷ version ∷ [])
-version_text None = []
-
--- the words for a line of a source file, where the file is known
+-- the words for a line of a source file, or of one that isn't known
 abbrev pub line_text : Option (List ℕ) → ℕ → List ℕ
 line_text (Some file) line =
     concat (codes " at " ∷ utf8_lossy file ∷ codes ":" ∷ decimal line ∷ [])
-line_text None line = []
+line_text None line = concat (codes " at line " ∷ decimal line ∷ [])

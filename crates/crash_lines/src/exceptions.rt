@@ -1,17 +1,15 @@
-ghost use Rattle.std.specs.Prelude.{◌≡◌, [], ◌∷◌, map};
+ghost use Rattle.std.specs.Prelude.{[], ◌∷◌, map};
 ghost use Rattle.minidump.specs.Below.Contexts.Context.{map_ok};
 ghost use Rattle.crash_threads.specs.Cause.{exception_of};
 ghost use Rattle.crash.specs.Crash.{crash_of};
-ghost use Rattle.crash_lines.specs.Exceptions.{cause_lines, context_words, counted_lines, crash_lines};
-ghost use Rattle.crash_lines.specs.Exceptions.{exception_line, none_lines, several_lines, several_row};
+ghost use Rattle.crash_lines.specs.Exceptions.{counted_lines, crash_lines, exception_line, none_lines};
+ghost use Rattle.crash_lines.specs.Exceptions.{several_lines, several_row};
 ghost use Rattle.crash_lines.specs.Lines.{Adds};
 
 use crate::lines::{Added, push_row, push_table, push_text_line};
-use crate::parts::Part::{
-    Decimal, DecimalIf, Failed, Hex, HexUnless, Id, Record, Text, TextAfter, Words,
-};
+use crate::parts::Part::{Decimal, Failed, Hex, HexUnless, Id, If, Record, Text, TextAfter, Words};
 use crate::point::{push_address_line, push_point, push_registers};
-use crash::{ContextProblem, Crash, CrashException, unaccepted_size};
+use crash::{Crash, CrashException};
 use minidump::Error;
 
 /// Appends the lines of the crash, and those of the exceptions if there are several.
@@ -35,6 +33,7 @@ pub fn push_none(out: &mut String, exceptions: &[Result<CrashException, Error>])
 }
 
 // Appends the lines of the crash by the exception that counts.
+#[rattlefmt::skip]
 #[tactic(auto, unfolding(crate::specs::Exceptions::counted_lines))]
 fn push_counted(out: &mut String, crash: &Crash<'_>, exception: &CrashException) -> Added
     ensures { Adds out.old out.new
@@ -44,18 +43,6 @@ fn push_counted(out: &mut String, crash: &Crash<'_>, exception: &CrashException)
     if let Some(facts) = &crash.cause.address {
         push_address_line(out, crash, "", "address", "", facts)?;
     }
-    push_cause(out, exception)?;
-    push_registers(out, crash, exception)?;
-    push_point(out, crash)
-}
-
-// Appends the reason of an exception, its code with where it happened and what else its record says,
-// and LLDB's description of it.
-#[rattlefmt::skip]
-#[tactic(auto, unfolding(crate::specs::Exceptions::cause_lines))]
-fn push_cause(out: &mut String, exception: &CrashException) -> Added
-    ensures { Adds out.old out.new (cause_lines (exception_of exception.now)) result }
-{
     push_table(out, &[
         &[Text("reason  ", &exception.reason, "")],
         &[
@@ -63,7 +50,9 @@ fn push_cause(out: &mut String, exception: &CrashException) -> Added
             Record(exception),
         ],
         &[Text("description ", &exception.description, "")],
-    ])
+    ])?;
+    push_registers(out, crash)?;
+    push_point(out, crash)
 }
 
 // Appends the exceptions and which of them counts, if there are several.
@@ -115,24 +104,11 @@ fn push_exception(
             Words("    #"), Decimal(number as u64), Id(" thread ", Some(exception.thread)),
             Words(", code "), Hex(exception.code as u64), Words(" at "), Hex(exception.at),
             HexUnless(exception.at, ", address ", exception.address),
-            TextAfter(", ", &exception.reason), Record(exception),
-            Text(", ", &exception.description, ""),
-            Words(context_words(exception.context_problem)),
-            DecimalIf(", ", unaccepted_size(exception.context_problem), " bytes"),
+            If(exception.address.is_none(), ", no address"), TextAfter(", ", &exception.reason),
+            Text(", ", &exception.description, ""), Record(exception),
         ]),
         Err(error) => push_row(out, &[
             Words("    #"), Decimal(number as u64), Words(" can't be read"), Failed(Some(*error)),
         ]),
-    }
-}
-
-// Returns the words for why the context of an exception can't be read.
-fn context_words(problem: Option<ContextProblem>) -> &'static str
-    ensures { result.now ≡ context_words problem }
-{
-    match problem {
-        Some(ContextProblem::Outside) => ", its context is outside the file",
-        Some(ContextProblem::NotAccepted { .. }) => ", no context that can be read",
-        Some(ContextProblem::NoSystem) | None => "",
     }
 }

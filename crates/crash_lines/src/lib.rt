@@ -19,7 +19,6 @@
 //! - A line is its text, with control characters as escapes, and a line feed: `line_of`.
 #![tactic(auto)]
 
-mod escape;
 mod exceptions;
 mod lines;
 mod messages;
@@ -28,9 +27,7 @@ mod point;
 mod system;
 
 pub use exceptions::{push_crash, push_none};
-pub use lines::{
-    Added, push_count, push_if_missing, push_line, push_row, push_table, push_text_line,
-};
+pub use lines::{Added, push_count, push_if_missing, push_line, push_row, push_table};
 pub use messages::push_messages;
 pub use parts::Part;
 pub use system::push_head;

@@ -1,11 +1,12 @@
-ghost use Rattle.std.specs.Prelude.{◌≡◌, [], ◌∷◌, OnErr, string_bytes};
-ghost use Rattle.std.specs.List.{flat_map};
+//! Lines of a text, whose control characters are escapes, so that no text begins a line.
+ghost use Rattle.std.specs.Prelude.{◌≡◌, [], ◌∷◌, OnErr, string_bytes, ◌++◌, OnOk, chars};
+ghost use Rattle.std.specs.Prelude.{encode_utf8_all, false};
+ghost use Rattle.std.specs.List.{flat_map, list_any};
 ghost use Rattle.minidump.specs.Below.Bytes.Piece.{piece_text};
-ghost use Rattle.crash_lines.specs.Lines.{Adds, row_of};
+ghost use Rattle.crash_lines.specs.Lines.{Adds, escape_char, escaped_text, is_control, row_of};
 ghost use Rattle.crash_lines.specs.Parts.{part_text};
 ghost use Rattle.crash_lines.specs.Words.{count_row, if_missing};
 
-use crate::escape::push_escaped;
 use crate::parts::Part::{Decimal, Words};
 use crate::parts::{Part, format_parts};
 use crash::is_missing;
@@ -52,7 +53,7 @@ pub fn push_table(out: &mut String, rows: &[&[Part<'_>]]) -> Added
 /// Appends the line of a text, its control characters as escapes. If an allocation fails, what there
 /// was is left as it was.
 #[tactic(auto, unfolding(crate::specs::Lines::line_of))]
-pub fn push_text_line(out: &mut String, text: &str) -> Added
+pub(crate) fn push_text_line(out: &mut String, text: &str) -> Added
     ensures ok { Adds out.old out.new (text.now ∷ []) result }
     ensures err { OnErr result (string_bytes out.new ≡ string_bytes out.old) }
 {
@@ -79,4 +80,49 @@ pub fn push_if_missing(out: &mut String, words: &str, error: Error) -> Added
     } else {
         Ok(())
     }
+}
+
+// ---- escapes
+
+// Appends a text, each of its control characters as an escape, as `\u{1b}`. A text without control
+// characters is appended as it is.
+fn push_escaped(out: &mut String, text: &str) -> Result<(), AllocError>
+    ensures escaped_text { OnOk result (string_bytes out.new ≡ string_bytes out.old ++ escaped_text
+        text.now) }
+    ensures plain { OnOk result (list_any is_control (chars text.now) ≡ false
+        → escaped_text text.now ≡ text.now) }
+{
+    for c in text.chars() {
+        push_char(out, c)?;
+    }
+    Ok(())
+}
+
+// Appends a character, or its escape.
+fn push_char(out: &mut String, c: char) -> Result<(), AllocError>
+    ensures { OnOk result (string_bytes out.new ≡ string_bytes out.old ++ encode_utf8_all
+        (flat_map escape_char (c ∷ []))) }
+{
+    if is_control(c) {
+        let number = u32::from(c);
+        write!(out, "\\u{{{number:x}}}")
+    } else {
+        out.push(c)
+    }
+}
+
+// Tells whether a character is shown as an escape: one of the control characters, a line or
+// paragraph separator, or a mark that changes the direction of text.
+fn is_control(c: char) -> bool
+    ensures { result ≡ is_control c }
+{
+    matches!(
+        c,
+        '\0'..='\u{1f}'
+            | '\u{7f}'..='\u{9f}'
+            | '\u{61c}'
+            | '\u{200e}'..='\u{200f}'
+            | '\u{2028}'..='\u{202e}'
+            | '\u{2066}'..='\u{2069}'
+    )
 }

@@ -1,5 +1,5 @@
 ghost use Rattle.std.specs.Prelude.{◌≡◌, [], ◌∷◌, codes, map, string_bytes};
-ghost use Rattle.std.specs.List.{concat, flat_map};
+ghost use Rattle.std.specs.List.{concat};
 ghost use Rattle.minidump.specs.Below.Contexts.Context.{map_ok};
 ghost use Rattle.minidump.specs.Below.Records.Annotations.{annotation_of};
 ghost use Rattle.minidump.specs.Below.Records.Crashpad.{module_of};
@@ -10,8 +10,9 @@ ghost use Rattle.minidump.specs.Promise.{mac_crash_info_stream, soft_errors_stre
 ghost use Rattle.crash_streams.specs.Contents.{message_streams_of};
 ghost use Rattle.crash_lines.specs.Lines.{Adds, if_ok};
 ghost use Rattle.crash_lines.specs.Messages.{annotation_row, assertion_line, crashpad_lines};
-ghost use Rattle.crash_lines.specs.Messages.{kind_words, messages_lines, module_lines, module_row};
-ghost use Rattle.crash_lines.specs.Messages.{object_row, record_lines, report_line, unnamed_row};
+ghost use Rattle.crash_lines.specs.Messages.{kind_words, mac_lines, messages_lines, module_lines, module_row};
+ghost use Rattle.crash_lines.specs.Messages.{object_row, record_lines, report_line, simple_row};
+ghost use Rattle.crash_lines.specs.Messages.{unnamed_row};
 
 use crate::lines::{Added, push_row, push_table};
 use crate::parts::Part::{Decimal, Guid, HexIf, Said, Units, Words};
@@ -92,32 +93,23 @@ fn push_report(out: &mut String, raw: &MINIDUMP_CRASHPAD_INFO) -> Added
     ])
 }
 
-// Appends the index of a module and its annotations, if it has any.
+// Appends the index of a module and its annotations.
 fn push_module(out: &mut String, module: &MinidumpModuleCrashpadInfo) -> Added
     ensures { Adds out.old out.new (module_lines (module_of module.now)) result }
 {
-    let has_annotations = module.list_annotations.len() > 0
-        || module.simple_annotations.len() > 0
-        || module.annotation_objects.len() > 0;
-    if has_annotations {
-        push_module_row(out, module.module_index)?;
-        push_unnamed(out, module.list_annotations.as_slice())?;
-        push_texts(out, &module.simple_annotations)?;
-        push_objects(out, &module.annotation_objects)
-    } else {
-        Ok(())
-    }
+    push_module_row(out, module.module_index)?;
+    push_unnamed(out, module.list_annotations.as_slice())?;
+    push_texts(out, &module.simple_annotations)?;
+    push_objects(out, &module.annotation_objects)
 }
 
 // Appends the line before the annotations of a module, by its index.
+#[rattlefmt::skip]
 #[tactic(auto, unfolding(crate::specs::Messages::module_row))]
 fn push_module_row(out: &mut String, index: usize) -> Added
     ensures { Adds out.old out.new (module_row index ∷ []) result }
 {
-    push_row(
-        out,
-        &[Words("annotations of module "), Decimal(index as u64)],
-    )
+    push_row(out, &[Words("annotations of module "), Decimal(index as u64)])
 }
 
 // Appends the lines of texts without names.
@@ -134,10 +126,10 @@ fn push_unnamed(out: &mut String, texts: &[String]) -> Added
 // Appends the texts of a dictionary.
 fn push_texts(out: &mut String, texts: &BTreeMap<String, String>) -> Added
     ensures { Adds out.old out.new
-        (map annotation_row (entries_of string_bytes texts.now.entries)) result }
+        (map simple_row (entries_of string_bytes texts.now.entries)) result }
 {
     for (name, text) in texts {
-        push_annotation(out, name.as_str(), text.as_str())?;
+        push_annotation(out, "annotation ", name.as_str(), text.as_str())?;
     }
     Ok(())
 }
@@ -148,44 +140,56 @@ fn push_objects(out: &mut String, objects: &BTreeMap<String, MinidumpAnnotation>
         (map object_row (entries_of annotation_of objects.now.entries)) result }
 {
     for (name, annotation) in objects {
-        push_annotation(out, name.as_str(), annotation_text(annotation))?;
+        let text = annotation_text(annotation);
+        push_annotation(out, "object annotation ", name.as_str(), text)?;
     }
     Ok(())
 }
 
-// Appends the line of an annotation: its name and its text.
+// Appends the line of an annotation after words: its name and its text.
 #[rattlefmt::skip]
 #[tactic(auto, unfolding(crate::specs::Messages::annotation_row))]
-fn push_annotation<'t>(out: &mut String, name: &'t str, text: &'t str) -> Added
-    ensures { Adds out.old out.new (annotation_row (name.now, text.now) ∷ []) result }
+fn push_annotation<'t>(
+    out: &mut String,
+    what: &'t str,
+    name: &'t str,
+    text: &'t str,
+) -> Added
+    ensures { Adds out.old out.new (annotation_row what.now (name.now, text.now) ∷ []) result }
 {
-    push_row(out, &[Words("annotation "), Words(name), Words(" = "), Words(text)])
+    push_row(out, &[Words(what), Words(name), Words(" = "), Words(text)])
 }
 
-// Appends the texts and the numbers of each record of macOS's crash information.
+// Appends the lines of the records of macOS's crash information.
 fn push_mac(out: &mut String, found: &Result<MinidumpMacCrashInfo, Error>) -> Added
     ensures { Adds out.old out.new
-        (if_ok (λ all. flat_map record_lines all.records)
+        (if_ok (λ all. mac_lines all.records)
         (map_ok mac_crash_info_stream.value found.now)) result }
 {
     match found {
-        Ok(info) => {
-            for record in info.raw.as_slice() {
-                push_record(out, record)?;
-            }
-            Ok(())
-        }
+        Ok(info) => push_records(out, info.raw.as_slice()),
         Err(_) => Ok(()),
     }
 }
 
-// Appends the texts and the numbers of a record that are there.
+// Appends the lines of records, each with its number.
+fn push_records(out: &mut String, records: &[RawMacCrashInfo]) -> Added
+    ensures { Adds out.old out.new (mac_lines (map mac_record_of records.now)) result }
+{
+    for (number, record) in records.iter().enumerate() {
+        push_record(out, number, record)?;
+    }
+    Ok(())
+}
+
+// Appends the number of a record, and the texts and the numbers of it that are there.
 #[rattlefmt::skip]
 #[tactic(auto, unfolding(crate::specs::Messages::record_lines))]
-fn push_record(out: &mut String, record: &RawMacCrashInfo) -> Added
-    ensures { Adds out.old out.new (record_lines (mac_record_of record.now)) result }
+fn push_record(out: &mut String, number: usize, record: &RawMacCrashInfo) -> Added
+    ensures { Adds out.old out.new (record_lines number (mac_record_of record.now)) result }
 {
     push_table(out, &[
+        &[Words("macOS record "), Decimal(number as u64)],
         &[Said("macOS module: ", record.module_path())],
         &[Said("macOS message: ", record.message())],
         &[Said("macOS second message: ", record.message2())],

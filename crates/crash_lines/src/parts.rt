@@ -5,18 +5,18 @@ ghost use Rattle.minidump_bytes.specs.LinuxOsStr.{text_of};
 ghost use Rattle.minidump.specs.Below.Bytes.Piece.{piece_text};
 ghost use Rattle.crash_threads.specs.Cause.{exception_of};
 ghost use Rattle.crash_process.specs.Modules.{loaded_of};
-ghost use Rattle.crash_lines.specs.Addresses.{memory_words};
+ghost use Rattle.crash_lines.specs.Point.{code_at, flag_words, memory_words, names_after};
+ghost use Rattle.crash_lines.specs.Point.{register_words};
 ghost use Rattle.crash_lines.specs.Parts.{part_text};
-ghost use Rattle.crash_lines.specs.Point.{code_at, flag_words, names_after};
-ghost use Rattle.crash_lines.specs.Records.{access_words, parameters_words, process_words, record_text};
-ghost use Rattle.crash_lines.specs.Records.{sender_words};
-ghost use Rattle.crash_lines.specs.Registers.{register_words};
-ghost use Rattle.crash_lines.specs.Words.{hex_unless, id_if, lossy_if, place_text};
-ghost use Rattle.crash_lines.specs.Words.{text_after, words_or};
+ghost use Rattle.crash_lines.specs.Exceptions.{access_words, context_words, parameters_words};
+ghost use Rattle.crash_lines.specs.Exceptions.{process_words, record_text, sender_words};
+ghost use Rattle.crash_lines.specs.Words.{hex_unless, id_if, lossy_if, place_text, text_after};
+ghost use Rattle.crash_lines.specs.Words.{words_or};
 
 use crate::lines::Added;
 use crash::{
-    Access, AddressMemory, CrashException, CrashModule, RegionState, Sender, ShortContext,
+    Access, AddressMemory, ContextProblem, CrashException, CrashModule, RegionState, Sender,
+    ShortContext,
 };
 use minidump::Error;
 use minidump::format::{GUID, MINIDUMP_STREAM_TYPE};
@@ -69,17 +69,16 @@ pub enum Part<'a> {
     Stream(u32),
     /// The name of an error, if there is one.
     Failed(Option<Error>),
-    /// A version, if there is one that says something.
-    Version(&'a Option<String>),
-    /// The name of a file and an identifier after words, if there are both.
-    Key(&'a str, Option<&'a String>, &'a Option<String>),
+    /// The name of a file and its identifier after words, if it has one.
+    Key(&'a str, &'a str, &'a Option<String>),
     /// The module of an index and the offset in it, or words if there is none.
     Place(&'a [CrashModule], &'a str, Option<(usize, u64)>),
     /// The state of memory, and its rights if it is committed.
     Memory(Option<AddressMemory>),
-    /// What the record of an exception says beside its code and where it happened.
+    /// What the record of an exception says beside its code and where it happened, and why its context
+    /// can't be read.
     Record(&'a CrashException),
-    /// A line of a source file, if the file is known.
+    /// A line of a source file, or of one that isn't known.
     Line(Option<LinuxOsStr<'a>>, u32),
     /// How much there is of a context after words, if it is cut.
     Short(&'a str, Option<ShortContext>),
@@ -100,12 +99,15 @@ impl Part<'_> {
         ensures { OnOk result (string_bytes out.new ≡ string_bytes out.old ++ part_text self.now) }
     {
         match *self {
+            Part::DecimalIf(_, None, _) | Part::Count(_, 0, _) | Part::HexIf(_, None)
+            | Part::Id(_, None) | Part::Text(_, None, _) | Part::TextAfter(_, None)
+            | Part::Said(_, None) | Part::Lossy(_, None) | Part::Failed(None)
+            | Part::Key(_, _, None) | Part::Short(_, None) => Ok(()),
             Part::Words(words) => out.push_str(words),
             Part::If(is_so, words) => out.push_str(words_or(is_so, words, "")),
             Part::Decimal(n) => push_pieces(out, &[Decimal(n)]),
             Part::DecimalIf(before, Some(n), after) =>
                 push_between(out, before, Decimal(n), after),
-            Part::Count(_, 0, _) => Ok(()),
             Part::Count(before, n, after) => push_between(out, before, Decimal(n as u64), after),
             Part::Hex(n) => push_pieces(out, &[Hex(n)]),
             Part::HexIf(words, Some(n)) => push_between(out, words, Hex(n), ""),
@@ -129,11 +131,8 @@ impl Part<'_> {
                 None => push_pieces(out, &[Words("stream "), Hex(number as u64)]),
             },
             Part::Failed(Some(error)) => push_between(out, ": ", Words(error.name()), ""),
-            Part::Version(Some(version)) if version.as_str() != "0.0.0.0" =>
-                push_between(out, ", version ", Words(version.as_str()), ""),
-            Part::Key(words, Some(file), Some(id)) => push_pieces(out, &[
-                Words(words), Words(file.as_str()), Words("/"), Words(id.as_str()),
-            ]),
+            Part::Key(words, file, Some(id)) =>
+                push_pieces(out, &[Words(words), Words(file), Words("/"), Words(id.as_str())]),
             Part::Place(modules, nowhere, place) => push_place(out, modules, nowhere, place),
             Part::Memory(memory) => push_memory(out, memory),
             Part::Record(exception) => push_record(out, exception),
@@ -141,6 +140,7 @@ impl Part<'_> {
                 push_lossy(out, " at ", file)?;
                 push_between(out, ":", Decimal(line as u64), "")
             }
+            Part::Line(None, line) => push_between(out, " at line ", Decimal(line as u64), ""),
             Part::Short(words, Some(short)) => push_pieces(out, &[
                 Words(words), Words("context of "), Decimal(short.size as u64), Words(" of "),
                 Decimal(short.whole as u64), Words(" bytes"),
@@ -149,18 +149,6 @@ impl Part<'_> {
             Part::Names(words, names) => push_names(out, words, names),
             Part::Registers(size, registers) => push_registers(out, size, registers),
             Part::Code(address, code) => push_code(out, address, code),
-            Part::DecimalIf(_, None, _)
-            | Part::HexIf(_, None)
-            | Part::Id(_, None)
-            | Part::Text(_, None, _)
-            | Part::TextAfter(_, None)
-            | Part::Said(_, None)
-            | Part::Lossy(_, None)
-            | Part::Failed(None)
-            | Part::Version(_)
-            | Part::Key(..)
-            | Part::Line(None, _)
-            | Part::Short(_, None) => Ok(()),
         }
     }
 }
@@ -339,22 +327,18 @@ fn push_code(out: &mut String, address: u64, code: &[u8]) -> Added
 
 // ---- the record of an exception
 
-// Appends what the record of an exception says beside its code and where it happened: not its flags
-// and parameters if LLDB wrote its description over them.
+// Appends what the record of an exception says beside its code and where it happened, and why the
+// context can't be read.
 fn push_record(out: &mut String, exception: &CrashException) -> Added
     ensures { OnOk result (string_bytes out.new
         ≡ string_bytes out.old ++ record_text (exception_of exception.now)) }
 {
-    let none: &[u64] = &[];
-    let (flags, parameters) = match &exception.description {
-        Some(_) => (0, none),
-        None => (exception.flags as u64, exception.parameters.as_slice()),
-    };
-    push_unless(out, 0, ", flags ", Some(flags))?;
+    push_unless(out, 0, ", flags ", Some(exception.flags as u64))?;
     push_unless(out, 0, ", nested record at ", Some(exception.nested))?;
     out.push_str(access_words(exception.access))?;
     push_sender(out, exception.sender)?;
-    push_parameters(out, parameters)
+    push_parameters(out, exception.parameters.as_slice())?;
+    push_problem(out, exception.context_problem)
 }
 
 // Returns the words for how memory was accessed.
@@ -409,5 +393,22 @@ fn push_parameters(out: &mut String, parameters: &[u64]) -> Added
             Ok(())
         }
         [] => Ok(()),
+    }
+}
+
+// Appends why the context of an exception can't be read, with its size, unless it has no bytes.
+fn push_problem(out: &mut String, problem: Option<ContextProblem>) -> Added
+    ensures { OnOk result (string_bytes out.new ≡ string_bytes out.old ++ context_words problem) }
+{
+    match problem {
+        Some(ContextProblem::Outside) => out.push_str(", its context is outside the file"),
+        Some(ContextProblem::NotAccepted { size: 0 }) => {
+            out.push_str(", no context that can be read")
+        }
+        Some(ContextProblem::NotAccepted { size }) => {
+            let size = Decimal(size as u64);
+            push_between(out, ", no context that can be read, ", size, " bytes")
+        }
+        Some(ContextProblem::NoSystem) | None => Ok(()),
     }
 }

@@ -4,33 +4,30 @@ ghost use Rattle.std.specs.Prelude.{◌≡◌, ◌∷◌, [], map};
 ghost use Rattle.std.specs.List.{list_any};
 ghost use Rattle.std.specs.Option.{option_copied, option_map};
 ghost use Rattle.crash_threads.specs.Addresses.{is_placed};
-ghost use Rattle.crash_threads.specs.Cause.{exception_of};
 ghost use Rattle.crash_threads.specs.Contexts.{context_of};
 ghost use Rattle.crash.specs.Crash.{crash_of};
 ghost use Rattle.crash_process.specs.Modules.{loaded_of};
 ghost use Rattle.crash_threads.specs.Point.{point_of};
-ghost use Rattle.crash_lines.specs.Addresses.{address_line, thread_id, unloaded_path};
+ghost use Rattle.crash_lines.specs.Point.{address_line, crashed_context, has_placed, heading_of};
+ghost use Rattle.crash_lines.specs.Point.{heading_row, instruction_lines, is_ordinary, known_lines};
+ghost use Rattle.crash_lines.specs.Point.{memory_lines, placed_lines, point_lines, processor_lines};
+ghost use Rattle.crash_lines.specs.Point.{register_row, registers_lines, rows, thread_id};
+ghost use Rattle.crash_lines.specs.Point.{unloaded_path};
 ghost use Rattle.crash_lines.specs.Lines.{Adds};
-ghost use Rattle.crash_lines.specs.Point.{code_lines, flags_lines, instruction_lines, is_ordinary};
-ghost use Rattle.crash_lines.specs.Point.{placed_heading, placed_lines, placed_registers, point_lines};
-ghost use Rattle.crash_lines.specs.Point.{processor_lines, words_lines};
-ghost use Rattle.crash_lines.specs.Registers.{crashed_context, heading_of, heading_row, known_lines};
-ghost use Rattle.crash_lines.specs.Registers.{register_row, registers_lines, rows};
 
 use crate::lines::{Added, push_row, push_table, push_text_line};
 use crate::parts::Part::{
-    Code, DecimalIf, Flags, Hex, HexIf, Id, If, Memory, Names, Place, Registers, Said, Short, Words,
+    Code, Flags, Hex, HexIf, Id, If, Memory, Names, Place, Registers, Said, Short, Words,
 };
 use crash::{
-    AddressFacts, ContextOrigin, Crash, CrashContext, CrashException, CrashModule, CrashPoint,
-    ShortContext, StackWord, unaccepted_size,
+    AddressFacts, ContextOrigin, Crash, CrashContext, CrashModule, CrashPoint, ShortContext,
 };
 
 // ---- an address
 
 // Appends the line of an address after its name, with `nowhere` if no module has it.
 #[rattlefmt::skip]
-#[tactic(auto, unfolding(crate::specs::Addresses::address_line))]
+#[tactic(auto, unfolding(crate::specs::Point::address_line))]
 pub(crate) fn push_address_line<'t>(
     out: &mut String,
     crash: &'t Crash<'_>,
@@ -70,38 +67,18 @@ fn thread_id(crash: &Crash<'_>, index: Option<usize>) -> Option<u32>
 
 // ---- the registers
 
-// Appends why the context of an exception isn't used, where it has bytes but is no context of the
-// processor, and then the registers of the thread that crashed; nothing without the system.
-#[rattlefmt::skip]
-#[tactic(auto, unfolding(crate::specs::Registers::unused_lines))]
-pub(crate) fn push_registers(
-    out: &mut String,
-    crash: &Crash<'_>,
-    exception: &CrashException,
-) -> Added
-    ensures { Adds out.old out.new
-        (registers_lines (crash_of crash.now) (exception_of exception.now)) result }
+// Appends the registers of the thread that crashed, or that there are none; nothing without the
+// system.
+pub(crate) fn push_registers(out: &mut String, crash: &Crash<'_>) -> Added
+    ensures { Adds out.old out.new (registers_lines (crash_of crash.now)) result }
 {
     match &crash.process.system {
-        Some(_) => {
-            let size = unaccepted_size(exception.context_problem);
-            push_table(out, &[
-                &[DecimalIf("the context of the exception can't be read, ", size, " bytes")],
-            ])?;
-            push_known(out, crashed_context(crash))
-        }
+        Some(_) => push_known(out, crashed_context(crash)),
         None => Ok(()),
     }
 }
 
-// Returns the registers of the thread that crashed.
-fn crashed_context<'l>(crash: &'l Crash<'_>) -> Option<&'l CrashContext>
-    ensures { option_map context_of (option_copied result) ≡ crashed_context (crash_of crash.now) }
-{
-    crash.threads.crashed()?.1.context.as_ref()
-}
-
-// Appends registers, or that there are none.
+// Appends registers after their heading, or that there are none.
 fn push_known(out: &mut String, context: Option<&CrashContext>) -> Added
     ensures { Adds out.old out.new
         (known_lines (option_map context_of (option_copied context.entry))) result }
@@ -115,9 +92,16 @@ fn push_known(out: &mut String, context: Option<&CrashContext>) -> Added
     }
 }
 
+// Returns the registers of the thread that crashed.
+fn crashed_context<'l>(crash: &'l Crash<'_>) -> Option<&'l CrashContext>
+    ensures { option_map context_of (option_copied result) ≡ crashed_context (crash_of crash.now) }
+{
+    crash.threads.crashed()?.1.context.as_ref()
+}
+
 // Appends the line of whose registers they are, and how much of their context there is, if it is
 // cut.
-#[tactic(auto, unfolding(crate::specs::Registers::heading_row))]
+#[tactic(auto, unfolding(crate::specs::Point::heading_row))]
 fn push_heading(out: &mut String, origin: ContextOrigin, short: Option<ShortContext>) -> Added
     ensures { Adds out.old out.new (heading_row origin short ∷ []) result }
 {
@@ -155,53 +139,44 @@ pub(crate) fn push_point(out: &mut String, crash: &Crash<'_>) -> Added
         Some(point) => {
             push_processor(out, crash, point)?;
             push_instruction(out, crash, &point.instruction)?;
-            push_code(out, point.instruction.address, point.code)?;
-            push_stack_words(out, crash.modules.loaded.as_slice(), point.words.as_slice())
+            push_memory(out, crash.modules.loaded.as_slice(), point)
         }
         None => Ok(()),
     }
 }
 
-// Appends the lines of the flags and the registers of a thread.
-fn push_processor(out: &mut String, crash: &Crash<'_>, point: &CrashPoint<'_>) -> Added
+// Appends the line of the flags and the segments, that of the flags that are set, if there are any, and
+// the registers whose values lie in a module or a stack, after a heading if there are any.
+#[rattlefmt::skip]
+#[tactic(auto, unfolding(crate::specs::Point::flags_and_heading))]
+fn push_processor<'x>(out: &mut String, crash: &Crash<'_>, point: &'x CrashPoint<'_>) -> Added
     ensures { Adds out.old out.new
         (processor_lines (crash_of crash.now) (point_of point.now)) result }
 {
-    push_flags_lines(out, point.flags.as_slice(), point.set_flags.as_slice())?;
-    push_placed_registers(out, crash, point.registers.as_slice())?;
-    Ok(())
-}
-
-// Appends the line of the flags and the segments, and that of the flags that are set, if there are
-// any.
-#[rattlefmt::skip]
-#[tactic(auto, unfolding(crate::specs::Point::flags_lines))]
-fn push_flags_lines<'x>(
-    out: &mut String,
-    flags: &'x [(&'static str, u64)],
-    set: &'x [&'static str],
-) -> Added
-    ensures { Adds out.old out.new (flags_lines (map (λ r. (r.0.now, r.1)) flags.now)
-        (map (λ name. name.now) set.now)) result }
-{
-    push_table(out, &[&[Words("  "), Flags(flags)], &[Names("    flags set:", set)]])
-}
-
-// Appends the registers whose values lie in a module or a stack, after a heading if there are any.
-#[tactic(auto, unfolding(crate::specs::Point::placed_registers))]
-fn push_placed_registers(
-    out: &mut String,
-    crash: &Crash<'_>,
-    registers: &[(&'static str, AddressFacts)],
-) -> Added
-    ensures { Adds out.old out.new (placed_registers (crash_of crash.now)
-        (map (λ r. (r.0.now, r.1)) registers.now)) result }
-{
-    push_placed_heading(out, registers)?;
+    let registers = point.registers.as_slice();
+    push_table(out, &[
+        &[Words("  "), Flags(point.flags.as_slice())],
+        &[Names("    flags set:", point.set_flags.as_slice())],
+        &[If(has_placed(registers), "registers in a module or a stack")],
+    ])?;
     for register in registers {
         push_if_placed(out, crash, register.0, &register.1)?;
     }
     Ok(())
+}
+
+// Tells whether the value of one of registers lies in a module or a stack.
+fn has_placed(registers: &[(&'static str, AddressFacts)]) -> bool
+    ensures { result ≡ has_placed (map (λ r. (r.0.now, r.1)) registers.now) }
+{
+    any_placed(registers)
+}
+
+// Tells the same, by the registers as they are.
+fn any_placed(registers: &[(&'static str, AddressFacts)]) -> bool
+    ensures { result ≡ list_any (λ r. is_placed r.1) registers.now }
+{
+    registers.iter().any(|register| register.1.is_placed())
 }
 
 // Appends the line of a register, if its value lies in a module or a stack.
@@ -214,25 +189,6 @@ fn push_if_placed(out: &mut String, crash: &Crash<'_>, name: &str, facts: &Addre
     } else {
         Ok(())
     }
-}
-
-// Appends the heading of those registers, if there are any.
-fn push_placed_heading(out: &mut String, registers: &[(&'static str, AddressFacts)]) -> Added
-    ensures { Adds out.old out.new
-        (placed_heading (map (λ r. (r.0.now, r.1)) registers.now)) result }
-{
-    if has_placed(registers) {
-        push_text_line(out, "registers in a module or a stack")
-    } else {
-        Ok(())
-    }
-}
-
-// Tells whether the value of one of registers lies in a module or a stack.
-fn has_placed(registers: &[(&'static str, AddressFacts)]) -> bool
-    ensures { result ≡ list_any (λ r. is_placed r.1) registers.now }
-{
-    registers.iter().any(|register| register.1.is_placed())
 }
 
 // Appends the line of an instruction pointer, unless it is ordinary.
@@ -254,24 +210,19 @@ fn is_ordinary(facts: &AddressFacts) -> bool
     facts.module.is_some() && facts.memory.map_or(true, |memory| memory.is_executable)
 }
 
-// Appends the line of the bytes at an address, if there are any.
-#[tactic(auto, unfolding(crate::specs::Point::code_lines))]
-fn push_code(out: &mut String, address: u64, code: &[u8]) -> Added
-    ensures { Adds out.old out.new (code_lines address code.now) result }
-{
-    push_table(out, &[&[Code(address, code)]])
-}
-
-// Appends the words of a stack, after a heading if there are any.
+// Appends the line of the bytes at the instruction pointer, if there are any, and the words of the stack,
+// after a heading if there are any.
 #[rattlefmt::skip]
-#[tactic(auto, unfolding(crate::specs::Point::word_line))]
-fn push_stack_words(out: &mut String, modules: &[CrashModule], words: &[StackWord]) -> Added
-    ensures { Adds out.old out.new (words_lines (map loaded_of modules.now) words.now) result }
+#[tactic(auto, unfolding(crate::specs::Point::code_and_heading, crate::specs::Point::word_line))]
+fn push_memory(out: &mut String, modules: &[CrashModule], point: &CrashPoint<'_>) -> Added
+    ensures { Adds out.old out.new
+        (memory_lines (map loaded_of modules.now) (point_of point.now)) result }
 {
-    if words.is_empty() {
-        return Ok(());
-    }
-    push_text_line(out, "words at the stack pointer")?;
+    let words = point.words.as_slice();
+    push_table(out, &[
+        &[Code(point.instruction.address, point.code)],
+        &[If(words.len() > 0, "words at the stack pointer")],
+    ])?;
     for word in words {
         push_row(out, &[
             Words("    "), Hex(word.address), Words(" "), Hex(word.value),

@@ -1,19 +1,18 @@
-ghost use Rattle.std.specs.Prelude.{[], ◌++◌, ◌∷◌, codes, map};
-ghost use Rattle.std.specs.Option.{option_map};
+ghost use Rattle.std.specs.Prelude.{◌≡◌, [], ◌∷◌, codes};
+ghost use Rattle.std.specs.Option.{option_copied, option_map};
 ghost use Rattle.minidump.specs.Below.Contexts.Context.{map_ok};
 ghost use Rattle.minidump.specs.Promise.{breakpad_info_stream, mac_bootargs_stream, system_info_stream};
 ghost use Rattle.crash.specs.Crash.{crash_of};
-ghost use Rattle.crash_process.specs.Modules.{loaded_of};
-ghost use Rattle.crash_process.specs.Process.{process_of, system_of};
+ghost use Rattle.crash_process.specs.Process.{system_of};
 ghost use Rattle.crash_process.specs.Release.{release_of};
 ghost use Rattle.crash_lines.specs.Lines.{Adds, if_ok, if_some};
 ghost use Rattle.crash_lines.specs.System.{boot_lines, breakpad_lines, date_lines, head_lines};
-ghost use Rattle.crash_lines.specs.System.{process_lines, program_lines, release_line, system_lines};
+ghost use Rattle.crash_lines.specs.System.{process_lines, program_in, release_line, system_lines};
 ghost use Rattle.crash_lines.specs.Words.{missing_lines};
 
 use crate::lines::{Added, push_if_missing, push_row, push_table};
-use crate::parts::Part::{Cpu, Decimal, DecimalIf, Id, Os, Text, TextAfter, Words};
-use crash::{Crash, CrashModule, CrashProcess, CrashSystem, LsbRelease};
+use crate::parts::Part::{Cpu, Decimal, DecimalIf, Id, Os, Said, Text, TextAfter, Words};
+use crash::{Crash, CrashSystem, LsbRelease};
 use minidump::{Error, MinidumpBreakpadInfo, MinidumpMacBootargs, MinidumpSystemInfo, date_text};
 use std::alloc::AllocError;
 
@@ -27,7 +26,7 @@ pub fn push_head(out: &mut String, crash: &Crash<'_>) -> Added
     push_boot(out, &crash.contents.messages.mac_boot_args)?;
     push_date(out, crash.directory.written)?;
     push_breakpad(out, &crash.contents.system.breakpad)?;
-    push_program(out, crash)
+    push_process(out, crash)
 }
 
 // Appends the lines of the system, if it is known.
@@ -120,39 +119,28 @@ fn push_breakpad(out: &mut String, info: &Result<MinidumpBreakpadInfo, Error>) -
     }
 }
 
-// Appends the lines of the program and of its process.
-fn push_program(out: &mut String, crash: &Crash<'_>) -> Added
-    ensures { Adds out.old out.new (program_lines (crash_of crash.now).modules.loaded
-        ++ process_lines (crash_of crash.now).process) result }
+// Returns the path of the program, the first of the modules, if there are any.
+fn program_in<'l>(crash: &'l Crash<'_>) -> Option<&'l str>
+    ensures { option_copied result ≡ program_in (crash_of crash.now) }
 {
-    push_path(out, crash.modules.loaded.as_slice())?;
-    push_process(out, &crash.process)
+    Some(crash.modules.loaded.get(0)?.path.as_str())
 }
 
-// Appends the path of the program, the first of the modules, if there are any.
-#[tactic(auto, unfolding(crate::specs::System::program_row))]
-fn push_path(out: &mut String, modules: &[CrashModule]) -> Added
-    ensures { Adds out.old out.new (program_lines (map loaded_of modules.now)) result }
-{
-    match modules {
-        [main, ..] => push_row(out, &[Words("program "), Words(main.path.as_str())]),
-        [] => Ok(()),
-    }
-}
-
-// Appends the lines of the process, and of the comments of the dump.
+// Appends the lines of the program, of its process, and of the comments of the dump.
 #[rattlefmt::skip]
 #[tactic(auto, unfolding(crate::specs::System::process_lines))]
-fn push_process(out: &mut String, process: &CrashProcess) -> Added
-    ensures { Adds out.old out.new (process_lines (process_of process.now)) result }
+fn push_process(out: &mut String, crash: &Crash<'_>) -> Added
+    ensures { Adds out.old out.new (process_lines (crash_of crash.now)) result }
 {
+    let process = &crash.process;
     push_table(out, &[
+        &[Said("program ", program_in(crash))],
         &[Id("process ", process.id)],
         &[Id("parent  ", process.parent)],
         &[DecimalIf("uptime  ", process.uptime, " s")],
         &[DecimalIf("resident ", process.resident, " bytes")],
         &[Text("command ", &process.command_line, "")],
         &[Text("comment ", &process.comments.narrow, "")],
-        &[Text("comment ", &process.comments.wide, "")],
+        &[Text("wide comment ", &process.comments.wide, "")],
     ])
 }

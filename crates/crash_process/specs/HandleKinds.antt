@@ -1,6 +1,5 @@
 -- The kinds of the handles of a process, by the names of their types.
-use Rattle.std.specs.Prelude.{ℕ, Bool, false, List, [], bytes_eq, count_by, map, Result, Ok, Err}
-use Rattle.std.specs.Prelude.{string_bytes}
+use Rattle.std.specs.Prelude.{ℕ, Bool, false, List, [], bytes_eq, count_by, map, Result, Ok, Err, string_bytes}
 use Rattle.std.specs.Cmp.Lexicographic.{slice_cmp}
 use Rattle.std.specs.FinMap.{entries, from_entries}
 use Rattle.std.specs.List.{filter_map}

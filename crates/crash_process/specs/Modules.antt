@@ -15,7 +15,6 @@ use Rattle.minidump.specs.Below.Format.Module.{module_entry}
 use Rattle.minidump.specs.Below.Index.Overlap.{range_of}
 use Rattle.minidump.specs.Below.Modules.CodeId.{stamp_form}
 use Rattle.minidump.specs.Below.Modules.DebugId.{breakpad_text}
-use Rattle.minidump.specs.Below.Modules.Identity.{Identity}
 use Rattle.minidump.specs.Below.Modules.Module.{ModuleValue, identity_of, read_module}
 use Rattle.minidump.specs.Below.Modules.UnloadedModule.{UnloadedValue}
 use Rattle.minidump.specs.Below.System.Framing.{plain_list}
@@ -94,9 +93,9 @@ modules_of m = record {
 abbrev pub end_of : ℕ → ℕ → Option ℕ
 end_of base size = if nat_lt (base + size) (2 ^ 64) then Some (base + size) else None
 
--- a module by what it is known by
-abbrev pub loaded_by : Identity → LoadedValue
-loaded_by i = record {
+-- a module of the list, by what it is known by
+abbrev pub module_in : ModuleValue → LoadedValue
+module_in m = let i = identity_of m in record {
   base = i.base;
   end = end_of i.base i.size;
   path = i.code_file;
@@ -106,10 +105,6 @@ loaded_by i = record {
   debug_file = option_map file_name i.debug_file;
   debug_id = option_map breakpad_text i.debug_identifier;
 }
-
--- a module of the list
-abbrev pub module_in : ModuleValue → LoadedValue
-module_in m = loaded_by (identity_of m)
 
 -- a module of the list of those that were unloaded
 abbrev pub unloaded_module_in : UnloadedValue → UnloadedModuleValue

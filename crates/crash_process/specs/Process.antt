@@ -81,9 +81,9 @@ version_and_build s = os_parts_of s.raw.major_version s.raw.minor_version s.raw.
 abbrev pub cpu_model : System → Result (List ℕ) Error → Option (List ℕ)
 cpu_model s cpu = option_or s.cpu_info (cpu_text (codes "model name") cpu)
 
--- a system by its information, and by Linux's description of the processors
-abbrev pub system_by : Result (List ℕ) Error → System → SystemValue
-system_by cpu s = record {
+-- a system by its information, where that can be read, and by Linux's description of the processors
+abbrev pub system_in : Result System Error → Result (List ℕ) Error → Option SystemValue
+system_in system cpu = option_map (λ s. record {
   os = s.os;
   cpu = s.cpu;
   processors = s.raw.number_of_processors;
@@ -91,11 +91,7 @@ system_by cpu s = record {
   build = (version_and_build s).1;
   cpu_model = cpu_model s cpu;
   microcode = cpu_text (codes "microcode") cpu;
-}
-
--- the same, where the information can be read
-abbrev pub system_in : Result System Error → Result (List ℕ) Error → Option SystemValue
-system_in system cpu = option_map (system_by cpu) (result_ok system)
+}) (result_ok system)
 
 -- the id of the process by the misc information, else by Linux's status
 abbrev pub id_in : Result RawMiscInfo Error → Result (List ℕ) Error → Option ℕ

@@ -1,8 +1,7 @@
 -- The texts of a process: what Linux's files say of it, its command line, and the comments of the
 -- dump.
-use Rattle.std.specs.Prelude.{ℕ, ◌*◌, ◌/◌, ◌%◌, ◌^◌, ◌==◌, ◌&&◌, ◌||◌, not, List, bytes_eq, codes, find, length}
-use Rattle.std.specs.Prelude.{Bool, false, Option, Some, None, Result, if◌then◌else◌, is_none}
-use Rattle.std.specs.Prelude.{map, nat_lt, string_bytes}
+use Rattle.std.specs.Prelude.{ℕ, ◌*◌, ◌/◌, ◌%◌, ◌^◌, ◌==◌, ◌&&◌, ◌||◌, not, List, bytes_eq, codes, find, length, Bool}
+use Rattle.std.specs.Prelude.{false, Option, Some, None, Result, if◌then◌else◌, is_none, map, nat_lt, string_bytes}
 use Rattle.std.specs.List.{before_first, list_all}
 use Rattle.std.specs.Option.{option_and_then, option_map, option_map_or}
 use Rattle.std.specs.Result.{result_ok}
@@ -37,14 +36,10 @@ status_number key status = option_and_then (number_of_digits 10 32) (value_of ke
 abbrev pub bytes_of_kb : ℕ → Option ℕ
 bytes_of_kb kb = if nat_lt (kb * 1024) (2 ^ 64) then Some (kb * 1024) else None
 
--- the number of bytes of a size that a text writes in kB
-abbrev pub size_of_text : List ℕ → Option ℕ
-size_of_text text = option_and_then bytes_of_kb
-    (option_and_then (number_of_digits 10 64) (before_suffix (codes " kB") text))
-
--- that of a value of a status
+-- the number of bytes of a size that a value of a status writes in kB
 abbrev pub status_size : List ℕ → Result (List ℕ) Error → Option ℕ
-status_size key status = option_and_then size_of_text (value_of key status)
+status_size key status = option_and_then (λ text. option_and_then bytes_of_kb
+    (option_and_then (number_of_digits 10 64) (before_suffix (codes " kB") text))) (value_of key status)
 
 -- the text of a value of a description of the processors, with U+FFFD for what isn't UTF-8
 abbrev pub cpu_text : List ℕ → Result (List ℕ) Error → Option (List ℕ)
@@ -81,10 +76,6 @@ comments_of c = record {
   is_wide_damaged = c.is_wide_damaged;
 }
 
--- the text of bytes before the first 0, with U+FFFD for what isn't UTF-8
-abbrev pub comment_text : List ℕ → List ℕ
-comment_text bytes = utf8_lossy (before_first (λ b. b == 0) bytes)
-
 -- the code units of bytes
 abbrev units_in : Endian → List ℕ → List ℕ
 units_in order bytes = units_at order 0 (length bytes / 2) bytes
@@ -93,19 +84,18 @@ units_in order bytes = units_at order 0 (length bytes / 2) bytes
 abbrev pub wide_text : Endian → List ℕ → Option (List ℕ)
 wide_text order bytes = text_before_nul (units_in order bytes)
 
--- the last of so many bytes is half a code unit, and none of the whole ones before it is 0
-abbrev pub is_cut : ℕ → List ℕ → Bool
-is_cut len units = len % 2 == 1 && list_all (λ u. not (u == 0)) units
-
--- a text of UTF-16 is damaged: a surrogate lacks its partner, or it is cut
+-- a text of UTF-16 is damaged: a surrogate lacks its partner, or it is cut: the last byte is half a code unit, and
+-- none of the whole ones before it is 0
 abbrev pub is_damaged : Endian → List ℕ → Bool
-is_damaged order bytes =
-    is_none (wide_text order bytes) || is_cut (length bytes) (units_in order bytes)
+is_damaged order bytes = is_none (wide_text order bytes)
+    || (length bytes % 2 == 1 && list_all (λ u. not (u == 0)) (units_in order bytes))
 
--- the comments of the streams CommentStreamA and CommentStreamW
+-- the comments of the streams CommentStreamA, of bytes before the first 0, with U+FFFD for what isn't UTF-8, and
+-- CommentStreamW
 abbrev pub comments_in : Dump → CommentsValue
 comments_in d = record {
-  narrow = option_map comment_text (result_ok (raw_stream (number_of CommentStreamA) d));
+  narrow = option_map (λ bytes. utf8_lossy (before_first (λ b. b == 0) bytes))
+      (result_ok (raw_stream (number_of CommentStreamA) d));
   wide = option_and_then (wide_text d.order) (result_ok (raw_stream (number_of CommentStreamW) d));
   is_wide_damaged = option_map_or (is_damaged d.order)
       (result_ok (raw_stream (number_of CommentStreamW) d)) false;

@@ -6,7 +6,7 @@ use Rattle.std.specs.Result.{result_ok}
 use Rattle.std.specs.Str.Lossy.{utf8_lossy}
 use Rattle.minidump.specs.declared.Error.{Error}
 use Rattle.minidump.specs.Below.Records.Pairs.{pairs_of}
-use Rattle.crash_process.specs.declared.release.LsbRelease.{LsbRelease}
+use Rattle.crash_process.specs.declared.linux.LsbRelease.{LsbRelease}
 
 -- a release: its distribution, its number, its codename and its description, where it says them
 pub record ReleaseValue : Type 0 where
@@ -44,15 +44,12 @@ abbrev pub text_value : List ℕ → List ℕ → List ℕ → Option (List ℕ)
 text_value text key other = option_map (λ value. utf8_lossy (without_single_quotes value))
     (first_value (pairs_of 0x3d text) key other)
 
--- the release of a text: each value by its key in lsb-release, or by that in os-release
-abbrev pub release_by : List ℕ → ReleaseValue
-release_by text = record {
+-- the release of the text of a stream, where that can be read: each value by its key in lsb-release, or by that in
+-- os-release
+abbrev pub release_in : Result (List ℕ) Error → Option ReleaseValue
+release_in found = option_map (λ text. record {
   id = text_value text (codes "DISTRIB_ID") (codes "ID");
   release = text_value text (codes "DISTRIB_RELEASE") (codes "VERSION_ID");
   codename = text_value text (codes "DISTRIB_CODENAME") (codes "VERSION_CODENAME");
   description = text_value text (codes "DISTRIB_DESCRIPTION") (codes "PRETTY_NAME");
-}
-
--- the same of the stream: none where it can't be read
-abbrev pub release_in : Result (List ℕ) Error → Option ReleaseValue
-release_in text = option_map release_by (result_ok text)
+}) (result_ok found)

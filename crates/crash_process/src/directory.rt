@@ -1,11 +1,9 @@
-ghost use Rattle.std.specs.Prelude.{◌≡◌, ◌^◌, ◌<◌, IfOk, Ok, length, map};
-ghost use Rattle.minidump.specs.Below.Contexts.Context.{map_ok};
+ghost use Rattle.std.specs.Prelude.{◌≡◌, ◌^◌, ◌<◌, IfOk, Ok, length};
 ghost use Rattle.minidump.specs.Dump.{dump_in};
 ghost use Rattle.minidump.specs.DumpValue.{dump_of};
-ghost use Rattle.minidump.specs.Promise.{exception_stream};
 ghost use Rattle.crash_streams.specs.Contents.{contents_of};
 ghost use Rattle.crash_process.specs.Directory.{all_entries, directory_in, directory_of, error_of_number};
-ghost use Rattle.crash_process.specs.Directory.{is_lost, last_error, outside_in, raw_error};
+ghost use Rattle.crash_process.specs.Directory.{outside_in, raw_error};
 ghost use Rattle.crash_process.specs.Missing.{is_missing};
 
 use crash_streams::{Contents, error_of};
@@ -97,7 +95,11 @@ fn error_of_number(dump: &Minidump<'_>, contents: &Contents<'_>, number: u32) ->
         MINIDUMP_STREAM_TYPE::BreakpadInfoStream => error_of(&system.breakpad),
         MINIDUMP_STREAM_TYPE::LinuxCpuInfo => error_of(&system.cpu_info),
         MINIDUMP_STREAM_TYPE::LinuxLsbRelease => error_of(&system.lsb_release),
-        MINIDUMP_STREAM_TYPE::ExceptionStream => last_error(threads.exceptions.as_slice()),
+        // The exception stream is the last exception.
+        MINIDUMP_STREAM_TYPE::ExceptionStream => match threads.exceptions.as_slice().last() {
+            Some(exception) => error_of(exception),
+            None => Some(Error::StreamNotFound),
+        },
         MINIDUMP_STREAM_TYPE::ThreadListStream => error_of(&threads.threads),
         MINIDUMP_STREAM_TYPE::ThreadNamesStream => error_of(&threads.names),
         MINIDUMP_STREAM_TYPE::ThreadInfoListStream => error_of(&threads.infos),
@@ -121,16 +123,6 @@ fn error_of_number(dump: &Minidump<'_>, contents: &Contents<'_>, number: u32) ->
     }
 }
 
-// Returns the error for which the exception stream can't be read, which is the last exception.
-fn last_error(exceptions: &[Result<MinidumpException<'_>, Error>]) -> Option<Error>
-    ensures { result ≡ last_error (map (map_ok exception_stream.value) exceptions.now) }
-{
-    match exceptions.last() {
-        Some(exception) => error_of(exception),
-        None => Some(Error::StreamNotFound),
-    }
-}
-
 // Returns the error for which the bytes of a stream can't be had.
 fn raw_error(dump: &Minidump<'_>, number: u32) -> Option<Error>
     ensures { result ≡ raw_error (dump_of dump.now) number }
@@ -138,7 +130,8 @@ fn raw_error(dump: &Minidump<'_>, number: u32) -> Option<Error>
     dump.get_raw_stream(number).err()
 }
 
-// Returns the number of entries that are lost.
+// Returns the number of entries that are lost: their bytes are not all in the file, but those of the
+// stream of their type are, which another entry decides. Each exception is read.
 fn outside_of(dump: &Minidump<'_>, file: &[u8]) -> u64
     requires { dump_in file.now ≡ Ok (dump_of dump.now) }
     ensures { result ≡ outside_in (dump_of dump.now) }
@@ -147,22 +140,15 @@ fn outside_of(dump: &Minidump<'_>, file: &[u8]) -> u64
     let entries = all_entries(dump, file);
     for index in 0..entries.len() {
         let entry = entries.read(index, &mut Steps::new());
-        count += u64::from(is_lost(dump, file, entry));
+        let bytes = entry
+            .location
+            .bytes_in(Source::new(file), &mut Steps::new());
+        let is_lost = bytes.is_none()
+            && raw_error(dump, entry.stream_type).is_none()
+            && entry.stream_type != MinidumpException::number_of_type();
+        count += u64::from(is_lost);
     }
     count
-}
-
-// Tells whether an entry is lost: its bytes are not all in the file, but those of the stream of its
-// type are, which another entry decides. Each exception is read.
-fn is_lost(dump: &Minidump<'_>, file: &[u8], entry: MINIDUMP_DIRECTORY) -> bool
-    ensures { result ≡ is_lost file.now (dump_of dump.now) entry }
-{
-    let bytes = entry
-        .location
-        .bytes_in(Source::new(file), &mut Steps::new());
-    bytes.is_none()
-        && raw_error(dump, entry.stream_type).is_none()
-        && entry.stream_type != MinidumpException::number_of_type()
 }
 
 // Returns all entries of the directory, which a file that is a dump holds.

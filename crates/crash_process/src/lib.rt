@@ -27,14 +27,12 @@ mod linux;
 mod modules;
 mod process;
 mod process_texts;
-mod release;
 mod unreadable_modules;
 
 pub use directory::{CrashDirectory, StreamEntry, directory_of, is_missing};
 pub use handle_kinds::HandleKind;
-pub use linux::{ProcessLimit, limits_of, variables_of};
+pub use linux::{LsbRelease, ProcessLimit, limits_of, variables_of};
 pub use modules::{CrashModule, CrashModules, UnloadedModule, file_name, modules_of};
 pub use process::{CrashProcess, CrashSystem, process_of};
 pub use process_texts::Comments;
-pub use release::LsbRelease;
 pub use unreadable_modules::{ModulePart, UnreadableModule};

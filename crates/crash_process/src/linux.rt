@@ -1,16 +1,18 @@
-//! What Linux says of a process in lists: the variables of its environment, and its limits.
-ghost use Rattle.std.specs.Prelude.{◌≡◌, ◌++◌, [], IfOk, OnOk, map, string_bytes};
+//! What Linux says of its release and of a process: the variables of its environment, and its limits.
+ghost use Rattle.std.specs.Prelude.{◌≡◌, IfOk, map, string_bytes};
 ghost use Rattle.std.specs.Char.{is_ascii_digit};
-ghost use Rattle.std.specs.List.{cons_option, list_all, position};
+ghost use Rattle.std.specs.List.{list_all, position};
 ghost use Rattle.std.specs.Option.{option_map};
 ghost use Rattle.minidump.specs.Below.Bytes.LinuxOsStr.{parts_of, text_of, words_of};
+ghost use Rattle.minidump.specs.Below.Contexts.Context.{map_ok};
 ghost use Rattle.minidump.specs.Below.Records.Pairs.{pairs_of};
-ghost use Rattle.minidump.specs.Promise.{linux_environ_stream, linux_proc_limits_stream};
-ghost use Rattle.crash_process.specs.Linux.{is_limit, joined_words, limit_from, limit_in, limit_of, limits_in};
-ghost use Rattle.crash_process.specs.Linux.{unit_in, words_limit};
+ghost use Rattle.minidump.specs.Promise.{linux_environ_stream, linux_lsb_release_stream, linux_proc_limits_stream};
+ghost use Rattle.crash_process.specs.Linux.{is_limit, joined_words, limit_from, limit_of, limits_in, unit_in};
+ghost use Rattle.crash_process.specs.Linux.{words_limit};
+ghost use Rattle.crash_process.specs.Release.{release_in, release_of, text_value, without_single_quotes};
 
 use minidump::strings::LinuxOsStr;
-use minidump::{MinidumpLinuxEnviron, MinidumpLinuxProcLimits};
+use minidump::{Error, MinidumpLinuxEnviron, MinidumpLinuxLsbRelease, MinidumpLinuxProcLimits};
 use std::alloc::{AllocError, Global};
 
 /// A limit of a process, as the copy of Linux's `/proc/PID/limits` has it, with U+FFFD for what
@@ -25,6 +27,22 @@ pub struct ProcessLimit {
     pub hard: String,
     /// What the limit counts, such as `bytes`, or `None` if the line doesn't say it.
     pub unit: Option<String>,
+}
+
+/// The release of a Linux system, as the copy of its `/etc/lsb-release` has it, or of its
+/// `/etc/os-release`, whose keys are others. Each is the value of the first line that has one of
+/// its two keys, without quotes around it, with U+FFFD for what isn't UTF-8, and `None` if no line has
+/// one.
+#[derive(Drop)]
+pub struct LsbRelease {
+    /// The distribution: `DISTRIB_ID` or `ID`.
+    pub id: Option<String>,
+    /// The number of the release: `DISTRIB_RELEASE` or `VERSION_ID`.
+    pub release: Option<String>,
+    /// The codename of the release: `DISTRIB_CODENAME` or `VERSION_CODENAME`.
+    pub codename: Option<String>,
+    /// The description: `DISTRIB_DESCRIPTION` or `PRETTY_NAME`.
+    pub description: Option<String>,
 }
 
 // ---- the environment
@@ -53,22 +71,12 @@ pub fn limits_of(
 {
     let mut made = Vec::new(alloc);
     for line in limits.iter() {
-        push_limit(&mut made, line)?;
+        let words = words_of(alloc, line)?;
+        if let Some(limit) = words_limit(alloc, words.as_slice())? {
+            made.push(limit)?;
+        }
     }
     Ok(made)
-}
-
-// Appends the limit of a line, if it has one.
-fn push_limit(made: &mut Vec<ProcessLimit>, line: LinuxOsStr<'_>) -> Result<(), AllocError>
-    ensures { OnOk result (map limit_of made.new.items
-        ≡ map limit_of made.old.items ++ cons_option (limit_in (text_of line.entry)) []) }
-{
-    let alloc = *made.allocator();
-    let words = words_of(alloc, line)?;
-    if let Some(limit) = words_limit(alloc, words.as_slice())? {
-        made.push(limit)?;
-    }
-    Ok(())
 }
 
 // Returns the words of a line.
@@ -157,5 +165,58 @@ fn unit_in(alloc: Global, words: &[LinuxOsStr<'_>]) -> Result<Option<String>, Al
     match words {
         [unit, ..] => Ok(Some(unit.to_string_lossy(alloc)?)),
         [] => Ok(None),
+    }
+}
+
+// ---- the release
+
+// Returns the release, or `None` if its stream can't be read.
+pub(crate) fn release_of(
+    alloc: Global,
+    release: &Result<MinidumpLinuxLsbRelease<'_>, Error>,
+) -> Result<Option<LsbRelease>, AllocError>
+    ensures { IfOk result (λ found. option_map release_of found
+        ≡ release_in (map_ok linux_lsb_release_stream.value release.now)) }
+{
+    let Ok(release) = release else {
+        return Ok(None);
+    };
+    Ok(Some(LsbRelease {
+        id: text_value(alloc, release, b"DISTRIB_ID", b"ID")?,
+        release: text_value(alloc, release, b"DISTRIB_RELEASE", b"VERSION_ID")?,
+        codename: text_value(alloc, release, b"DISTRIB_CODENAME", b"VERSION_CODENAME")?,
+        description: text_value(alloc, release, b"DISTRIB_DESCRIPTION", b"PRETTY_NAME")?,
+    }))
+}
+
+// Copies the value of the first pair that has one of two keys, without single quotes.
+fn text_value(
+    alloc: Global,
+    stream: &MinidumpLinuxLsbRelease<'_>,
+    key: &[u8],
+    other: &[u8],
+) -> Result<Option<String>, AllocError>
+    ensures { IfOk result (λ text. option_map string_bytes text
+        ≡ text_value (linux_lsb_release_stream.value stream.now) key.now other.now) }
+{
+    for (name, value) in stream.iter() {
+        if name.as_bytes() == key || name.as_bytes() == other {
+            return Ok(Some(without_single_quotes(value).to_string_lossy(alloc)?));
+        }
+    }
+    Ok(None)
+}
+
+// Returns a value without the single quotes at its ends, or as it is if one of them is missing.
+#[tactic(auto, unfolding(crate::specs::Release::without_single_quotes))]
+fn without_single_quotes(value: LinuxOsStr<'_>) -> LinuxOsStr<'_>
+    ensures { text_of result ≡ without_single_quotes (text_of value.entry) }
+{
+    let bytes = value.as_bytes();
+    let end = bytes.len();
+    if end >= 2 && bytes[0] == b'\'' && bytes[end - 1] == b'\'' {
+        LinuxOsStr::from_bytes(&bytes[1..end - 1])
+    } else {
+        value
     }
 }

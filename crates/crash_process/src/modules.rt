@@ -1,13 +1,10 @@
-ghost use Rattle.std.specs.Prelude.{◌≡◌, [], IfOk, IsOkUnless, Ok, map, string_bytes, unwrap_or};
+ghost use Rattle.std.specs.Prelude.{◌≡◌, IfOk, IsOkUnless, Ok, map, string_bytes};
 ghost use Rattle.std.specs.Option.{option_map};
-ghost use Rattle.std.specs.Result.{result_ok};
-ghost use Rattle.minidump.specs.Below.Contexts.Context.{map_ok};
 ghost use Rattle.minidump.specs.Below.Modules.DebugId.{breakpad_text};
 ghost use Rattle.minidump.specs.Below.Modules.Module.{module_of};
 ghost use Rattle.minidump.specs.Below.Modules.UnloadedModule.{unloaded_of};
 ghost use Rattle.minidump.specs.Dump.{dump_in};
 ghost use Rattle.minidump.specs.DumpValue.{dump_of};
-ghost use Rattle.minidump.specs.Promise.{unloaded_module_list_stream};
 ghost use Rattle.crash_streams.specs.Contents.{contents_of};
 ghost use Rattle.crash_process.specs.FileName.{file_name};
 ghost use Rattle.crash_process.specs.Modules.{by_address, loaded_of, module_in, modules_in, modules_of};
@@ -15,10 +12,7 @@ ghost use Rattle.crash_process.specs.Modules.{unloaded_module_in, unloaded_modul
 
 use crate::unreadable_modules::{UnreadableModule, unreadable_of};
 use crash_streams::{Contents, owned_text, unloaded_entries};
-use minidump::{
-    DebugId, Error, Minidump, MinidumpModule, MinidumpUnloadedModule, MinidumpUnloadedModuleList,
-    Module,
-};
+use minidump::{DebugId, Error, Minidump, MinidumpModule, MinidumpUnloadedModule, Module};
 use minidump_bytes::as_text;
 use std::alloc::{AllocError, Global};
 use std::collections::BTreeSet;
@@ -163,20 +157,12 @@ fn unloaded_module_in(alloc: Global, item: &MinidumpUnloadedModule) -> Result<Un
 fn by_address(alloc: Global, modules: &[CrashModule]) -> Result<Vec<usize>, AllocError>
     ensures { IfOk result (λ indices. indices.items ≡ by_address (map loaded_of modules.now)) }
 {
-    let bases = bases_of(alloc, modules)?;
-    bases.iter().map(|pair| pair.1).collect(alloc)
-}
-
-// Returns the base address of each module with the index of the module, ascending.
-fn bases_of(alloc: Global, modules: &[CrashModule]) -> Result<BTreeSet<(u64, usize)>, AllocError>
-    ensures { IfOk result
-        (λ bases. map (λ p. p.1) bases.keys ≡ by_address (map loaded_of modules.now)) }
-{
-    modules
+    let bases: BTreeSet<(u64, usize)> = modules
         .iter()
         .enumerate()
         .map(|(index, module)| (module.base, index))
-        .collect(alloc)
+        .collect(alloc)?;
+    bases.iter().map(|pair| pair.1).collect(alloc)
 }
 
 // Makes Breakpad's text of an identifier that may be absent.

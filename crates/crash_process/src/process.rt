@@ -1,5 +1,5 @@
 ghost use Rattle.std.specs.Prelude.{◌≡◌, IfOk, IsOkUnless, string_bytes};
-ghost use Rattle.std.specs.Option.{option_copied, option_map};
+ghost use Rattle.std.specs.Option.{option_map};
 ghost use Rattle.minidump.specs.Below.Contexts.Context.{map_ok};
 ghost use Rattle.minidump.specs.DumpValue.{dump_of};
 ghost use Rattle.minidump.specs.Promise.{linux_cpu_info_stream, linux_proc_status_stream};
@@ -9,10 +9,10 @@ ghost use Rattle.crash_process.specs.Process.{cpu_model, id_in, process_in, proc
 ghost use Rattle.crash_process.specs.Process.{uptime_in};
 
 use crate::handle_kinds::{HandleKind, kinds_of};
+use crate::linux::{LsbRelease, release_of};
 use crate::process_texts::{
     Comments, command_line_of, comments_of, cpu_text, status_number, status_size,
 };
-use crate::release::{LsbRelease, release_of};
 use crash_streams::Contents;
 use minidump::system_info::{Cpu, Os};
 use minidump::{
@@ -143,11 +143,9 @@ fn id_of(
     ensures { result ≡ id_in (map_ok misc_info_stream.value misc.now)
         (map_ok linux_proc_status_stream.value status.now) }
 {
-    let by_misc = match misc {
-        Ok(misc) => misc.raw.process_id().copied(),
-        Err(_) => None,
-    };
-    by_misc.or(status_number(status, b"Pid"))
+    misc.as_ref()
+        .map_or(None, |misc| misc.raw.process_id().copied())
+        .or(status_number(status, b"Pid"))
 }
 
 // Returns for how many seconds the process had run.

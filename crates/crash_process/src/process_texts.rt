@@ -1,7 +1,7 @@
 //! The texts of a process: what Linux's files say of it, its command line, and the comments of the
 //! dump.
 ghost use Rattle.std.specs.Prelude.{◌≡◌, ◌/◌, ◌==◌, IfOk, length, not, string_bytes};
-ghost use Rattle.std.specs.List.{before_first, list_all, position};
+ghost use Rattle.std.specs.List.{list_all};
 ghost use Rattle.std.specs.Option.{option_map};
 ghost use Rattle.minidump.specs.Below.Bytes.LinuxOsStr.{text_of};
 ghost use Rattle.minidump.specs.Below.Bytes.Text16.{units_at};
@@ -9,7 +9,7 @@ ghost use Rattle.minidump.specs.Below.Contexts.Context.{map_ok};
 ghost use Rattle.minidump.specs.DumpValue.{dump_of};
 ghost use Rattle.minidump.specs.Promise.{linux_cpu_info_stream, linux_proc_status_stream};
 ghost use Rattle.crash_process.specs.ProcessTexts.{command_line_in, command_text, comments_in, comments_of, cpu_text};
-ghost use Rattle.crash_process.specs.ProcessTexts.{spaced, status_number, status_size, value_in, value_of};
+ghost use Rattle.crash_process.specs.ProcessTexts.{spaced, status_number, status_size, value_in};
 
 use crash_streams::before_nul;
 use minidump::format::MINIDUMP_STREAM_TYPE;
@@ -46,7 +46,8 @@ pub(crate) fn status_number(
 ) -> Option<u32>
     ensures { result ≡ status_number key.now (map_ok linux_proc_status_stream.value status.now) }
 {
-    number_32(status_value(status, key)?.as_bytes(), 10)
+    let value = value_in(status.as_ref().ok()?.iter(), key)?;
+    number_32(value.as_bytes(), 10)
 }
 
 // Returns the number of bytes that a value of Linux's status writes in kB.
@@ -56,7 +57,8 @@ pub(crate) fn status_size(
 ) -> Option<u64>
     ensures { result ≡ status_size key.now (map_ok linux_proc_status_stream.value status.now) }
 {
-    let digits = status_value(status, key)?.strip_suffix(b" kB")?;
+    let value = value_in(status.as_ref().ok()?.iter(), key)?;
+    let digits = value.strip_suffix(b" kB")?;
     number_64(digits.as_bytes(), 10)?.checked_mul(1024)
 }
 
@@ -75,20 +77,6 @@ pub(crate) fn cpu_text(
     match value_in(cpu.iter(), key) {
         Some(value) => Ok(Some(value.to_string_lossy(alloc)?)),
         None => Ok(None),
-    }
-}
-
-// Returns a value of Linux's status.
-fn status_value<'a>(
-    status: &Result<MinidumpLinuxProcStatus<'a>, Error>,
-    key: &[u8],
-) -> Option<LinuxOsStr<'a>>
-    ensures { option_map text_of result
-        ≡ value_of key.now (map_ok linux_proc_status_stream.value status.now) }
-{
-    match status {
-        Ok(status) => value_in(status.iter(), key),
-        Err(_) => None,
     }
 }
 

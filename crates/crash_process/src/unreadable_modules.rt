@@ -1,10 +1,8 @@
 //! The entries of the list of modules that can't be read.
-ghost use Rattle.std.specs.Prelude.{◌≡◌, ◌++◌, [], IfOk, IsOkUnless, Ok, OnOk, unwrap_or};
-ghost use Rattle.std.specs.List.{cons_option};
+ghost use Rattle.std.specs.Prelude.{◌≡◌, [], IfOk, IsOkUnless, Ok, unwrap_or};
 ghost use Rattle.minidump.specs.Dump.{dump_in};
 ghost use Rattle.minidump.specs.DumpValue.{dump_of};
-ghost use Rattle.crash_process.specs.Modules.{entries_in, part_in, unreadable_among};
-ghost use Rattle.crash_process.specs.Modules.{unreadable_by, unreadable_in};
+ghost use Rattle.crash_process.specs.Modules.{entries_in, part_in, unreadable_among, unreadable_by};
 
 use minidump::format::MINIDUMP_MODULE;
 use minidump::own_streams::Entries;
@@ -75,32 +73,16 @@ fn unreadable_among(
     let mut modules = Vec::new(alloc);
     for index in 0..entries.len() {
         let raw = entries.read(index, &mut Steps::new());
-        push_unreadable(&mut modules, file, endian, index, &raw)?;
+        if let Some(part) = part_in(alloc, file, endian, &raw)? {
+            modules.push(UnreadableModule {
+                index,
+                base: raw.base_of_image,
+                size: raw.size_of_image,
+                part,
+            })?;
+        }
     }
     Ok(modules)
-}
-
-// Appends an entry and its index, if something of it can't be read.
-fn push_unreadable(
-    modules: &mut Vec<UnreadableModule>,
-    file: &[u8],
-    endian: Endian,
-    index: usize,
-    raw: &MINIDUMP_MODULE,
-) -> Result<(), Error>
-    ensures modules { OnOk result (modules.new.items ≡ modules.old.items
-        ++ cons_option (unreadable_in endian file.now (index, raw.now)) []) }
-    ensures memory { IsOkUnless result Error.OutOfMemory }
-{
-    if let Some(part) = part_in(*modules.allocator(), file, endian, raw)? {
-        modules.push(UnreadableModule {
-            index,
-            base: raw.base_of_image,
-            size: raw.size_of_image,
-            part,
-        })?;
-    }
-    Ok(())
 }
 
 // Returns what of an entry that has addresses can't be read: its name, else its CodeView record.

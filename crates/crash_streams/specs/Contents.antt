@@ -30,15 +30,14 @@ use Rattle.minidump.specs.Exception.{Exception}
 use Rattle.minidump.specs.Exceptions.{exceptions_in}
 use Rattle.minidump.specs.Memory.{first_found}
 use Rattle.minidump.specs.Thread.{Thread}
-use Rattle.minidump.specs.Promise.{system_info_stream, misc_info_stream, breakpad_info_stream}
-use Rattle.minidump.specs.Promise.{linux_cpu_info_stream, linux_lsb_release_stream, exception_stream}
-use Rattle.minidump.specs.Promise.{thread_list_stream, thread_names_stream, thread_info_list_stream}
-use Rattle.minidump.specs.Promise.{module_list_stream, unloaded_module_list_stream, memory64_list_stream}
-use Rattle.minidump.specs.Promise.{memory_list_stream, memory_info_list_stream, linux_maps_stream}
-use Rattle.minidump.specs.Promise.{assertion_stream, crashpad_info_stream, mac_crash_info_stream}
-use Rattle.minidump.specs.Promise.{mac_bootargs_stream, soft_errors_stream, stability_report_stream}
-use Rattle.minidump.specs.Promise.{handle_data_stream, linux_proc_status_stream, linux_environ_stream}
-use Rattle.minidump.specs.Promise.{linux_proc_limits_stream}
+use Rattle.minidump.specs.Promise.{system_info_stream, misc_info_stream, breakpad_info_stream, linux_cpu_info_stream}
+use Rattle.minidump.specs.Promise.{linux_lsb_release_stream, exception_stream, thread_list_stream}
+use Rattle.minidump.specs.Promise.{thread_names_stream, thread_info_list_stream, module_list_stream}
+use Rattle.minidump.specs.Promise.{unloaded_module_list_stream, memory64_list_stream, memory_list_stream}
+use Rattle.minidump.specs.Promise.{memory_info_list_stream, linux_maps_stream, assertion_stream, crashpad_info_stream}
+use Rattle.minidump.specs.Promise.{mac_crash_info_stream, mac_bootargs_stream, soft_errors_stream}
+use Rattle.minidump.specs.Promise.{stability_report_stream, handle_data_stream, linux_proc_status_stream}
+use Rattle.minidump.specs.Promise.{linux_environ_stream, linux_proc_limits_stream}
 use Rattle.crash_streams.specs.declared.contents.SystemStreams.{SystemStreams}
 use Rattle.crash_streams.specs.declared.contents.ThreadStreams.{ThreadStreams}
 use Rattle.crash_streams.specs.declared.contents.SpaceStreams.{SpaceStreams}
@@ -53,16 +52,6 @@ pub record SystemStreamValues : Type 0 where
   pub breakpad : Result MinidumpBreakpadInfo Error
   pub cpu_info : Result (List ℕ) Error
   pub lsb_release : Result (List ℕ) Error
-
--- those of a dump
-abbrev pub system_streams_in : Dump → SystemStreamValues
-system_streams_in d = record {
-  system = stream_of system_info_stream d;
-  misc = stream_of misc_info_stream d;
-  breakpad = stream_of breakpad_info_stream d;
-  cpu_info = stream_of linux_cpu_info_stream d;
-  lsb_release = stream_of linux_lsb_release_stream d;
-}
 
 -- those of a `SystemStreams`
 abbrev pub system_streams_of : SystemStreams → SystemStreamValues
@@ -81,15 +70,6 @@ pub record ThreadStreamValues : Type 0 where
   pub threads : Result (List Thread) Error
   pub names : Result ThreadNames Error
   pub infos : Result (List MINIDUMP_THREAD_INFO) Error
-
--- those of a dump
-abbrev pub thread_streams_in : Dump → ThreadStreamValues
-thread_streams_in d = record {
-  exceptions = exceptions_in d;
-  threads = stream_of thread_list_stream d;
-  names = stream_of thread_names_stream d;
-  infos = stream_of thread_info_list_stream d;
-}
 
 -- those of a `ThreadStreams`
 abbrev pub thread_streams_of : ThreadStreams → ThreadStreamValues
@@ -133,28 +113,6 @@ pub record SpaceStreamValues : Type 0 where
   pub infos_errors : Option Error × Option Error
   pub map_count : Option ℕ
 
--- those of a dump
-abbrev pub space_streams_in : Dump → SpaceStreamValues
-space_streams_in d = record {
-  modules = (listed_or_none (stream_of module_list_stream d)).modules;
-  without_addresses = (listed_or_none (stream_of module_list_stream d)).without_addresses;
-  modules_error = result_err (stream_of module_list_stream d);
-  unloaded = stream_of unloaded_module_list_stream d;
-  memory = first_memory (stream_of memory64_list_stream d) (stream_of memory_list_stream d);
-  memory_errors = (
-    result_err (stream_of memory64_list_stream d),
-    result_err (stream_of memory_list_stream d),
-  );
-  regions_outside =
-      option_map_or (λ list. list.outside) (result_ok (stream_of memory_list_stream d)) 0;
-  infos = first_infos (stream_of memory_info_list_stream d) (stream_of linux_maps_stream d);
-  infos_errors = (
-    result_err (stream_of memory_info_list_stream d),
-    result_err (stream_of linux_maps_stream d),
-  );
-  map_count = option_map length (result_ok (stream_of linux_maps_stream d));
-}
-
 -- those of a `SpaceStreams`
 abbrev pub space_streams_of : SpaceStreams → SpaceStreamValues
 space_streams_of s = record {
@@ -179,17 +137,6 @@ pub record MessageStreamValues : Type 0 where
   pub soft_errors : Result (List ℕ) Error
   pub stability : Result Report Error
 
--- those of a dump
-abbrev pub message_streams_in : Dump → MessageStreamValues
-message_streams_in d = record {
-  assertion = stream_of assertion_stream d;
-  crashpad = stream_of crashpad_info_stream d;
-  mac_crash_info = stream_of mac_crash_info_stream d;
-  mac_boot_args = stream_of mac_bootargs_stream d;
-  soft_errors = stream_of soft_errors_stream d;
-  stability = stream_of stability_report_stream d;
-}
-
 -- those of a `MessageStreams`
 abbrev pub message_streams_of : MessageStreams → MessageStreamValues
 message_streams_of s = record {
@@ -207,15 +154,6 @@ pub record ProcessStreamValues : Type 0 where
   pub status : Result (List ℕ) Error
   pub environ : Result (List ℕ) Error
   pub limits : Result (List ℕ) Error
-
--- those of a dump
-abbrev pub process_streams_in : Dump → ProcessStreamValues
-process_streams_in d = record {
-  handles = stream_of handle_data_stream d;
-  status = stream_of linux_proc_status_stream d;
-  environ = stream_of linux_environ_stream d;
-  limits = stream_of linux_proc_limits_stream d;
-}
 
 -- those of a `ProcessStreams`
 abbrev pub process_streams_of : ProcessStreams → ProcessStreamValues
@@ -237,11 +175,52 @@ pub record ContentsValue : Type 0 where
 -- those of a dump
 abbrev pub contents_in : Dump → ContentsValue
 contents_in d = record {
-  system = system_streams_in d;
-  threads = thread_streams_in d;
-  space = space_streams_in d;
-  messages = message_streams_in d;
-  process = process_streams_in d;
+  system = record {
+    system = stream_of system_info_stream d;
+    misc = stream_of misc_info_stream d;
+    breakpad = stream_of breakpad_info_stream d;
+    cpu_info = stream_of linux_cpu_info_stream d;
+    lsb_release = stream_of linux_lsb_release_stream d;
+  };
+  threads = record {
+    exceptions = exceptions_in d;
+    threads = stream_of thread_list_stream d;
+    names = stream_of thread_names_stream d;
+    infos = stream_of thread_info_list_stream d;
+  };
+  space = record {
+    modules = (listed_or_none (stream_of module_list_stream d)).modules;
+    without_addresses = (listed_or_none (stream_of module_list_stream d)).without_addresses;
+    modules_error = result_err (stream_of module_list_stream d);
+    unloaded = stream_of unloaded_module_list_stream d;
+    memory = first_memory (stream_of memory64_list_stream d) (stream_of memory_list_stream d);
+    memory_errors = (
+      result_err (stream_of memory64_list_stream d),
+      result_err (stream_of memory_list_stream d),
+    );
+    regions_outside =
+        option_map_or (λ list. list.outside) (result_ok (stream_of memory_list_stream d)) 0;
+    infos = first_infos (stream_of memory_info_list_stream d) (stream_of linux_maps_stream d);
+    infos_errors = (
+      result_err (stream_of memory_info_list_stream d),
+      result_err (stream_of linux_maps_stream d),
+    );
+    map_count = option_map length (result_ok (stream_of linux_maps_stream d));
+  };
+  messages = record {
+    assertion = stream_of assertion_stream d;
+    crashpad = stream_of crashpad_info_stream d;
+    mac_crash_info = stream_of mac_crash_info_stream d;
+    mac_boot_args = stream_of mac_bootargs_stream d;
+    soft_errors = stream_of soft_errors_stream d;
+    stability = stream_of stability_report_stream d;
+  };
+  process = record {
+    handles = stream_of handle_data_stream d;
+    status = stream_of linux_proc_status_stream d;
+    environ = stream_of linux_environ_stream d;
+    limits = stream_of linux_proc_limits_stream d;
+  };
 }
 
 -- those of a `Contents`

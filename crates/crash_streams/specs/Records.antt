@@ -1,8 +1,7 @@
 -- What the record of an exception says: the parameters, LLDB's text over them, and by its system
 -- how memory was accessed, and who sent a signal.
 use Rattle.std.specs.Prelude.{ℕ, codes, false, true, ◌-◌, ◌%◌, ◌/◌, ◌^◌, ◌==◌, ◌||◌, ◌&&◌, nat_le, nat_lt, not, Bool}
-use Rattle.std.specs.Prelude.{List, min}
-use Rattle.std.specs.Prelude.{slice_index, take, length, Option, Some, None, if◌then◌else◌}
+use Rattle.std.specs.Prelude.{List, min, slice_index, take, length, Option, Some, None, if◌then◌else◌}
 use Rattle.std.specs.Int.{to_le_bytes, w64}
 use Rattle.std.specs.List.{before_first, flat_map}
 use Rattle.std.specs.Option.{option_and_then, option_map_or}
@@ -28,19 +27,17 @@ parameters_in r = take (min r.number_parameters 15) r.exception_information
 
 -- ---- the text of LLDB
 
--- a text, with U+FFFD for what isn't UTF-8: none where there are no bytes
-abbrev text_unless_empty : List ℕ → Option (List ℕ)
-text_unless_empty bytes = if length bytes == 0 then None else Some (utf8_lossy bytes)
-
 -- the flags of a record are those of LLDB, which then writes a text over the parameters: LLDB_FLAG of llvm's
 -- BinaryFormat/Minidump.h, C's constant 'LLDB'
 abbrev has_lldb_flag : MINIDUMP_EXCEPTION → Bool
 has_lldb_flag r = r.exception_flags == 0x4c4c_4442
 
--- that text, before its first 0, if there is one, of the bytes of all parameters, each from its lowest byte on
+-- that text, of the bytes of all parameters, each from its lowest byte on: those before the first 0, if there is
+-- one, with U+FFFD for what isn't UTF-8, and none where there are no bytes
 abbrev pub description_in : MINIDUMP_EXCEPTION → Option (List ℕ)
-description_in r = if has_lldb_flag r then text_unless_empty (before_first (λ b. b == 0)
-    (flat_map (to_le_bytes w64) r.exception_information)) else None
+description_in r =
+    let bytes = before_first (λ b. b == 0) (flat_map (to_le_bytes w64) r.exception_information) in
+    if has_lldb_flag r then (if length bytes == 0 then None else Some (utf8_lossy bytes)) else None
 
 -- ---- accesses
 
@@ -74,15 +71,11 @@ abbrev access_of_number : ℕ → Option Access
 access_of_number n = if n == 0 then Some Read
     else (if n == 1 then Some Write else (if n == 8 then Some Execute else None))
 
--- the exceptions whose first parameter this is
-abbrev has_access : Cpu → MINIDUMP_EXCEPTION → Bool
-has_access cpu r = (is_access Windows r.exception_code && nat_le 1 r.number_parameters)
-    && (not (has_lldb_flag r) && not (is_protection cpu r))
-
 -- how memory was accessed, by a record of an operating system on a processor
 abbrev access_on : Os → Cpu → MINIDUMP_EXCEPTION → Option Access
-access_on Windows cpu r =
-    if has_access cpu r then access_of_number (slice_index r.exception_information 0) else None
+access_on Windows cpu r = if (is_access Windows r.exception_code && nat_le 1 r.number_parameters)
+    && (not (has_lldb_flag r) && not (is_protection cpu r))
+    then access_of_number (slice_index r.exception_information 0) else None
 access_on _ cpu r = None
 
 -- the same where the system is known
@@ -140,10 +133,7 @@ sender_by code width r =
     then sender_at code width (slice_index r.exception_information 0)
     else sender_of_parameters code r.exception_information))
 
--- Linux numbers its signals from 1 to 64, and its processes from 1 to 2^22 - 1
-abbrev is_signal : ℕ → Bool
-is_signal n = nat_le 1 n && nat_le n 64
-
+-- Linux numbers its processes from 1 to 2^22 - 1
 abbrev is_process : ℕ → Bool
 is_process n = nat_le 1 n && nat_lt n (2 ^ 22)
 
@@ -159,10 +149,12 @@ abbrev pub is_sent : SignalCode → MINIDUMP_EXCEPTION → Option ℕ → Bool
 is_sent User r process = option_map_or is_process process false && not (is_low_access r)
 is_sent _ r process = true
 
--- the sender, where there is one: the record's code is the signal, and its flags are the `si_code`
+-- the sender, where there is one: the record's code is the signal, which Linux numbers from 1 to 64, and its flags
+-- are the `si_code`
 abbrev sender_with : PointerWidth → MINIDUMP_EXCEPTION → Option Sender
 sender_with width r = option_and_then (λ code. let s = sender_by code width r in
-    if is_signal r.exception_code && is_sent code r s.process then Some s else None)
+    if (nat_le 1 r.exception_code && nat_le r.exception_code 64) && is_sent code r s.process
+    then Some s else None)
     (signal_code r.exception_flags)
 
 -- the process that sent the signal of a record on an operating system

@@ -1,22 +1,17 @@
 ghost use Rattle.std.specs.Prelude.{◌≡◌, [], IfOk, IsOkUnless, map, unwrap_or};
 ghost use Rattle.std.specs.Result.{result_err, result_ok};
 ghost use Rattle.minidump.specs.Below.Contexts.Context.{map_ok};
-ghost use Rattle.minidump.specs.Below.MemoryLists.Unified.{unified_list, unified_region};
-ghost use Rattle.minidump.specs.Below.MemoryLists.Unified.{unified_regions};
+ghost use Rattle.minidump.specs.Below.MemoryLists.Unified.{unified_list, unified_region, unified_regions};
 ghost use Rattle.minidump.specs.Below.MemoryLists.UnifiedInfo.{info_list};
-ghost use Rattle.minidump.specs.Below.Modules.ModuleList.{module_list_of};
 ghost use Rattle.minidump.specs.Below.Modules.UnloadedModule.{unloaded_of};
 ghost use Rattle.minidump.specs.Below.Records.Annotations.{annotation_of};
 ghost use Rattle.minidump.specs.Below.Records.CrashpadText.{annotation_text};
 ghost use Rattle.minidump.specs.DumpValue.{dump_of};
-ghost use Rattle.minidump.specs.Promise.{linux_maps_stream, memory64_list_stream};
-ghost use Rattle.minidump.specs.Promise.{memory_info_list_stream, memory_list_stream};
-ghost use Rattle.minidump.specs.Promise.{unloaded_module_list_stream};
-ghost use Rattle.crash_streams.specs.Contents.{contents_in, contents_of, first_infos};
-ghost use Rattle.crash_streams.specs.Contents.{first_memory, message_streams_in, message_streams_of};
-ghost use Rattle.crash_streams.specs.Contents.{process_streams_in, process_streams_of, space_streams_in};
-ghost use Rattle.crash_streams.specs.Contents.{space_streams_of, system_streams_in, system_streams_of};
-ghost use Rattle.crash_streams.specs.Contents.{thread_streams_in, thread_streams_of};
+ghost use Rattle.minidump.specs.Promise.{linux_maps_stream, memory64_list_stream, memory_info_list_stream};
+ghost use Rattle.minidump.specs.Promise.{memory_list_stream, unloaded_module_list_stream};
+ghost use Rattle.crash_streams.specs.Contents.{contents_in, contents_of, first_infos, first_memory};
+ghost use Rattle.crash_streams.specs.Contents.{message_streams_of, process_streams_of};
+ghost use Rattle.crash_streams.specs.Contents.{space_streams_of, system_streams_of, thread_streams_of};
 
 use minidump::{
     Error, Minidump, MinidumpAnnotation, MinidumpAssertion, MinidumpBreakpadInfo,
@@ -185,8 +180,8 @@ fn crash_streams<'a>(
     alloc: Global,
     dump: &Minidump<'a>,
 ) -> Result<(SystemStreams<'a>, ThreadStreams<'a>), Error>
-    ensures system { IfOk result (λ s. system_streams_of s.0 ≡ system_streams_in (dump_of dump.now)) }
-    ensures threads { IfOk result (λ s. thread_streams_of s.1 ≡ thread_streams_in (dump_of dump.now)) }
+    ensures system { IfOk result (λ s. system_streams_of s.0 ≡ (contents_in (dump_of dump.now)).system) }
+    ensures threads { IfOk result (λ s. thread_streams_of s.1 ≡ (contents_in (dump_of dump.now)).threads) }
     ensures memory { IsOkUnless result Error.OutOfMemory }
 {
     let system = SystemStreams {
@@ -211,9 +206,9 @@ fn said_streams<'a>(
     dump: &Minidump<'a>,
 ) -> Result<(MessageStreams<'a>, ProcessStreams<'a>), Error>
     ensures messages { IfOk result
-        (λ s. message_streams_of s.0 ≡ message_streams_in (dump_of dump.now)) }
+        (λ s. message_streams_of s.0 ≡ (contents_in (dump_of dump.now)).messages) }
     ensures process { IfOk result
-        (λ s. process_streams_of s.1 ≡ process_streams_in (dump_of dump.now)) }
+        (λ s. process_streams_of s.1 ≡ (contents_in (dump_of dump.now)).process) }
     ensures memory { IsOkUnless result Error.OutOfMemory }
 {
     let messages = MessageStreams {
@@ -237,7 +232,7 @@ fn said_streams<'a>(
 
 // Reads the streams of the address space.
 fn space_streams<'a>(alloc: Global, dump: &Minidump<'a>) -> Result<SpaceStreams<'a>, Error>
-    ensures streams { IfOk result (λ s. space_streams_of s ≡ space_streams_in (dump_of dump.now)) }
+    ensures streams { IfOk result (λ s. space_streams_of s ≡ (contents_in (dump_of dump.now)).space) }
     ensures memory { IsOkUnless result Error.OutOfMemory }
 {
     let modules: Result<MinidumpModuleList, Error> = dump.try_stream(alloc)?;
@@ -265,10 +260,10 @@ fn memory_streams<'a>(
     alloc: Global,
     dump: &Minidump<'a>,
 ) -> Result<(UnifiedMemoryList<'a>, (Option<Error>, Option<Error>), u64), Error>
-    ensures list { IfOk result (λ s. unified_list s.0 ≡ (space_streams_in (dump_of dump.now)).memory) }
-    ensures errors { IfOk result (λ s. s.1 ≡ (space_streams_in (dump_of dump.now)).memory_errors) }
+    ensures list { IfOk result (λ s. unified_list s.0 ≡ (contents_in (dump_of dump.now)).space.memory) }
+    ensures errors { IfOk result (λ s. s.1 ≡ (contents_in (dump_of dump.now)).space.memory_errors) }
     ensures outside { IfOk result
-        (λ s. s.2 ≡ (space_streams_in (dump_of dump.now)).regions_outside) }
+        (λ s. s.2 ≡ (contents_in (dump_of dump.now)).space.regions_outside) }
     ensures memory { IsOkUnless result Error.OutOfMemory }
 {
     let memory64 = dump.try_stream(alloc)?;
@@ -291,9 +286,9 @@ fn info_streams<'a>(
     ),
     Error,
 >
-    ensures list { IfOk result (λ s. info_list s.0 ≡ (space_streams_in (dump_of dump.now)).infos) }
-    ensures errors { IfOk result (λ s. s.1 ≡ (space_streams_in (dump_of dump.now)).infos_errors) }
-    ensures count { IfOk result (λ s. s.2 ≡ (space_streams_in (dump_of dump.now)).map_count) }
+    ensures list { IfOk result (λ s. info_list s.0 ≡ (contents_in (dump_of dump.now)).space.infos) }
+    ensures errors { IfOk result (λ s. s.1 ≡ (contents_in (dump_of dump.now)).space.infos_errors) }
+    ensures count { IfOk result (λ s. s.2 ≡ (contents_in (dump_of dump.now)).space.map_count) }
     ensures memory { IsOkUnless result Error.OutOfMemory }
 {
     let infos = dump.try_stream(alloc)?;
@@ -307,10 +302,7 @@ fn info_streams<'a>(
 pub fn error_of<'a, S: MinidumpStream<'a>>(found: &Result<S, Error>) -> Option<Error>
     ensures { result ≡ result_err (map_ok S.spec.value found.now) }
 {
-    match found {
-        Ok(_) => None,
-        Err(error) => Some(*error),
-    }
+    found.as_ref().err().copied()
 }
 
 // Returns the first list of memory that could be read, or none.
@@ -354,8 +346,5 @@ pub fn unloaded_entries(
     ensures { map unloaded_of result.now
         ≡ unwrap_or (result_ok (map_ok unloaded_module_list_stream.value list.now)) [] }
 {
-    match list {
-        Ok(list) => list.iter().as_slice(),
-        Err(_) => &[],
-    }
+    list.as_ref().map_or(&[], |list| list.iter().as_slice())
 }

@@ -33,12 +33,6 @@ const SIGPOLL: u32 = 29;
 
 const SIGSYS: u32 = 31;
 
-const SI_USER: u32 = 0;
-
-const SI_QUEUE: u32 = 0xffff_ffff;
-
-const SI_TKILL: u32 = 0xffff_fffa;
-
 const SI_KERNEL: u32 = 0x80;
 
 const SEGV_MTEAERR: u32 = 8;
@@ -220,24 +214,20 @@ pub fn sender_of(system: Option<&MinidumpSystemInfo>, raw: &MINIDUMP_EXCEPTION) 
     match (system.os, signal_code(raw.exception_flags)) {
         (Os::Linux | Os::Android, Some(code)) if is_signal => {
             let sender = sender_by(code, system.cpu.pointer_width(), raw);
-            if is_sent(code, raw, sender.process) {
-                Some(sender)
-            } else {
-                None
-            }
+            is_sent(code, raw, sender.process).then_some(sender)
         }
         _ => None,
     }
 }
 
-// Returns the code of a signal that a process sends.
+// Returns the code of a signal that a process sends: SI_USER, SI_QUEUE or SI_TKILL.
 fn signal_code(si_code: u32) -> Option<SignalCode>
     ensures { result ≡ signal_code si_code }
 {
     match si_code {
-        SI_USER => Some(SignalCode::User),
-        SI_QUEUE => Some(SignalCode::Queue),
-        SI_TKILL => Some(SignalCode::Tkill),
+        0 => Some(SignalCode::User),
+        0xffff_ffff => Some(SignalCode::Queue),
+        0xffff_fffa => Some(SignalCode::Tkill),
         _ => None,
     }
 }

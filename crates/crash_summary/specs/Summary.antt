@@ -4,7 +4,6 @@ use Rattle.std.specs.Prelude.{ℕ, List, [], Option, Some, Result, Ok, string_by
 use Rattle.std.specs.Option.{option_and_then, option_map, option_or}
 use Rattle.std.specs.Result.{result_ok}
 use Rattle.minidump.specs.declared.Error.{Error}
-use Rattle.minidump.specs.declared.MinidumpRawContext.{MinidumpRawContext}
 use Rattle.minidump.specs.Below.Index.Lookup.{looked_up}
 use Rattle.minidump.specs.Below.MemoryLists.Unified.{Memory, UnifiedRegions}
 use Rattle.minidump.specs.Below.Modules.Module.{ModuleValue, range_of_module}
@@ -73,14 +72,11 @@ abbrev pub reason_in : Lists → Option System → Exception → Option (List �
 reason_in names system e = option_map
     (λ s. reason_text names (crash_reason names s.os s.cpu e.raw.exception_record)) system
 
--- the context of a crash: the exception's, where it is accepted, else that of the thread
-abbrev pub crash_context : Option System → Exception → Option Thread → Option MinidumpRawContext
-crash_context system e thread = option_or (known_context system e.order e.context)
-    (option_and_then (λ t. known_context system t.order t.context) thread)
-
--- its instruction pointer
+-- the instruction pointer of a crash: that of the exception's context, where it is accepted, else that of
+-- the thread's
 abbrev pub crash_pointer : Option System → Exception → Option Thread → Option ℕ
-crash_pointer system e thread = instruction_of (crash_context system e thread)
+crash_pointer system e thread = instruction_of (option_or (known_context system e.order e.context)
+    (option_and_then (λ t. known_context system t.order t.context) thread))
 
 -- the kept module that contains an address
 abbrev pub module_at : List ModuleValue → Option ℕ → Option Loaded

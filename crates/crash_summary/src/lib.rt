@@ -15,16 +15,13 @@
 ghost use Rattle.std.specs.Prelude.{◌≡◌, IfOk, IsOkUnless, string_bytes};
 ghost use Rattle.std.specs.Option.{option_copied, option_map};
 ghost use Rattle.minidump.specs.Below.Format.Answer.{Gives};
-ghost use Rattle.minidump.specs.Below.MemoryLists.Unified.{unified_list};
 ghost use Rattle.minidump.specs.Dump.{HasEntries, dump_system};
 ghost use Rattle.minidump.specs.DumpValue.{dump_of};
-ghost use Rattle.minidump.specs.Below.Modules.ModuleList.{module_list_of};
 ghost use Rattle.minidump.specs.Promise.{exception_stream, system_info_stream};
-ghost use Rattle.minidump.specs.Promise.{thread_list_stream};
 ghost use Rattle.minidump.specs.Thread.{thread_of};
 ghost use Rattle.crash_summary.specs.Summary.{address_in, crash_pointer, loaded_of, memory_in};
 ghost use Rattle.crash_summary.specs.Summary.{module_at, modules_in, reason_in, stack_in, summary_at};
-ghost use Rattle.crash_summary.specs.Summary.{summary_in, summary_of, threads_in};
+ghost use Rattle.crash_summary.specs.Summary.{summary_in, summary_of};
 
 pub mod laws;
 
@@ -98,17 +95,18 @@ fn summary_at<'a>(
 {
     let system = system_of(alloc, dump)?;
     let system = system.as_ref();
-    let threads = threads_of(alloc, dump)?;
+    let threads: Option<MinidumpThreadList<'a>> = dump.find_stream(alloc)?;
+    let threads = threads.unwrap_or(MinidumpThreadList {
+        threads: Vec::new(alloc),
+    });
     let thread = threads.get_thread(exception.thread_id);
-    let modules = modules_of(alloc, dump)?;
     let pointer = crash_pointer(system, exception, thread);
-    let memory = memory_of(alloc, dump)?;
     Ok(CrashSummary {
         thread: exception.thread_id,
         address: address_of(system, exception),
         reason: reason_of(alloc, system, exception, names)?,
-        module: module_at(alloc, &modules, pointer)?,
-        stack: stack_of(thread, &memory),
+        module: module_at(alloc, dump, pointer)?,
+        stack: stack_of(alloc, dump, thread)?,
     })
 }
 
@@ -120,37 +118,6 @@ fn system_of(alloc: Global, dump: &Minidump<'_>) -> Result<Option<MinidumpSystem
 {
     minidump::laws::system_information_is_the_dumps();
     dump.find_stream(alloc)
-}
-
-// Returns the threads, an empty list if they are missing or malformed.
-fn threads_of<'a>(alloc: Global, dump: &Minidump<'a>) -> Result<MinidumpThreadList<'a>, Error>
-    ensures value { IfOk result (λ threads. thread_list_stream.value threads
-        ≡ threads_in (dump_of dump.now)) }
-    ensures memory { IsOkUnless result Error.OutOfMemory }
-{
-    let threads = dump.find_stream(alloc)?;
-    Ok(threads.unwrap_or(MinidumpThreadList {
-        threads: Vec::new(alloc),
-    }))
-}
-
-// Returns the modules, an empty list if they are missing or malformed.
-fn modules_of(alloc: Global, dump: &Minidump<'_>) -> Result<MinidumpModuleList, Error>
-    ensures value { IfOk result (λ modules. module_list_of modules
-        ≡ modules_in (dump_of dump.now)) }
-    ensures memory { IsOkUnless result Error.OutOfMemory }
-{
-    let modules = dump.find_stream(alloc)?;
-    Ok(modules.unwrap_or(MinidumpModuleList::new(alloc)))
-}
-
-// Returns the memory, an empty list if both lists are missing or malformed.
-fn memory_of<'a>(alloc: Global, dump: &Minidump<'a>) -> Result<UnifiedMemoryList<'a>, Error>
-    ensures value { IfOk result (λ memory. unified_list memory ≡ memory_in (dump_of dump.now)) }
-    ensures memory { IsOkUnless result Error.OutOfMemory }
-{
-    let memory = dump.get_memory(alloc)?;
-    Ok(memory.unwrap_or(UnifiedMemoryList::new(alloc)))
 }
 
 // Returns the instruction pointer of a crash: that of the exception's context, if it is accepted, else
@@ -204,16 +171,18 @@ fn reason_of(
     Ok(Some(String::from_utf8(out.into_device()).unwrap()))
 }
 
-// Returns the module that contains an address.
+// Returns the module that contains an address, or `None` if the modules are missing or malformed.
 fn module_at(
     alloc: Global,
-    modules: &MinidumpModuleList,
+    dump: &Minidump<'_>,
     address: Option<u64>,
 ) -> Result<Option<ModuleHit>, Error>
     ensures value { IfOk result (λ hit. option_map loaded_of hit
-        ≡ module_at (module_list_of modules.now) address) }
+        ≡ module_at (modules_in (dump_of dump.now)) address) }
     ensures memory { IsOkUnless result Error.OutOfMemory }
 {
+    let modules: Option<MinidumpModuleList> = dump.find_stream(alloc)?;
+    let modules = modules.unwrap_or(MinidumpModuleList::new(alloc));
     let Some(address) = address else {
         return Ok(None);
     };
@@ -227,17 +196,26 @@ fn module_at(
     }))
 }
 
-// Returns the stack of a thread.
+// Returns the stack of a thread: its own, or one that the memory holds, where it can be read.
 fn stack_of<'a>(
+    alloc: Global,
+    dump: &Minidump<'a>,
     thread: Option<&MinidumpThread<'a>>,
-    memory: &UnifiedMemoryList<'a>,
-) -> Option<StackHit>
-    ensures { result ≡ stack_in (unified_list memory.now)
-        (option_map thread_of (option_copied thread.entry)) }
+) -> Result<Option<StackHit>, Error>
+    ensures value { IfOk result (λ stack. stack ≡ stack_in (memory_in (dump_of dump.now))
+        (option_map thread_of (option_copied thread.entry))) }
+    ensures memory { IsOkUnless result Error.OutOfMemory }
 {
-    let region = thread?.stack_memory(memory)?;
-    Some(StackHit {
+    let memory = dump.get_memory(alloc)?;
+    let memory = memory.unwrap_or(UnifiedMemoryList::new(alloc));
+    let Some(thread) = thread else {
+        return Ok(None);
+    };
+    let Some(region) = thread.stack_memory(&memory) else {
+        return Ok(None);
+    };
+    Ok(Some(StackHit {
         base: region.base_address(),
         size: region.size(),
-    })
+    }))
 }

@@ -1,7 +1,3 @@
 -- The lemmas of this crate.
-pub mod NameLemmas
+pub mod ListLemmas
 pub mod PathLemmas
-pub mod WantedLemmas
-pub mod BacktraceLemmas
-pub mod ShownLemmas
-pub mod SignatureLemmas

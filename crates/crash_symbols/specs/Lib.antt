@@ -4,7 +4,6 @@ pub mod Symbols
 pub mod Names
 pub mod NameParts
 pub mod Backtraces
-pub mod Wanted
 pub mod Modules
 pub mod Shown
 pub mod Signature

@@ -3,14 +3,13 @@
 use Rattle.std.specs.Prelude.{ℕ, ◌-◌, List, [], ◌∷◌, map, reverse, Option, Some, None, is_some}
 use Rattle.std.specs.List.{filter_map, range_with_len, take_while}
 use Rattle.std.specs.Option.{option_and_then, option_map, option_map_or}
-use Rattle.minidump_index.specs.Lookup.{looked_up}
 use Rattle.breakpad_symbols.specs.declared.inline.InlineCall.{InlineCall}
 use Rattle.breakpad_symbols.specs.Function.{FunctionValue, line_in}
 use Rattle.breakpad_symbols.specs.Inline.{inlines_in}
 use Rattle.breakpad_symbols.specs.Numbered.{first_numbered}
 use Rattle.breakpad_symbols.specs.SymbolFile.{SymbolsValue, file_name, origin_name, public_at}
 use Rattle.crash_threads.specs.declared.frames.CrashFrame.{CrashFrame}
-use Rattle.symbol_walk.specs.Symbols.{range_of_lines, symbols_of_module}
+use Rattle.symbol_walk.specs.Symbols.{function_at, symbols_of_module}
 
 -- a function by name, and the offset of an address from its first
 pub record FunctionName : Type 0 where
@@ -36,10 +35,6 @@ pub record NamedFrameValue : Type 0 where
   pub inlines : List CallValue
 
 -- ---- functions
-
--- the kept function that has an offset
-abbrev pub function_at : SymbolsValue → ℕ → Option FunctionValue
-function_at s offset = looked_up range_of_lines s.functions offset
 
 -- the name of the public symbol of an offset
 abbrev pub public_name : SymbolsValue → ℕ → Option FunctionName

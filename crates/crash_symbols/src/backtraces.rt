@@ -2,10 +2,8 @@ ghost use Rattle.std.specs.Prelude.{◌≡◌, IfOk, map};
 ghost use Rattle.std.specs.Option.{option_map};
 ghost use Rattle.stack_walk.specs.Frames.{stack_of};
 ghost use Rattle.crash.specs.Crash.{crash_of};
-ghost use Rattle.symbol_walk.specs.Unwinder.{frame_of};
-ghost use Rattle.symbol_walk.specs.Walk.{plain_frames, symbol_walk_of};
-ghost use Rattle.crash_symbols.specs.Backtraces.{backtrace_by, backtrace_in, backtrace_of};
-ghost use Rattle.crash_symbols.specs.Backtraces.{backtrace_on, backtraces_in, backtraces_of, frame_by};
+ghost use Rattle.crash_symbols.specs.Backtraces.{backtrace_in, backtrace_of, backtrace_on};
+ghost use Rattle.crash_symbols.specs.Backtraces.{backtraces_in, backtraces_of, frame_by};
 ghost use Rattle.crash_symbols.specs.NameParts.{named_of};
 ghost use Rattle.crash_symbols.specs.Symbols.{known_of};
 
@@ -15,7 +13,7 @@ use crash::{Crash, frame_in};
 use minidump::MinidumpContext;
 use stack_walk::{Stack, StackFrame};
 use std::alloc::{AllocError, Global};
-use symbol_walk::{KnownFrame, SymbolWalk, SymbolWalkEnd, walk_by_symbols};
+use symbol_walk::{SymbolWalkEnd, plain_frames, walk_by_symbols};
 
 /// The backtraces of a crash.
 #[derive(Drop)]
@@ -49,7 +47,7 @@ impl<'l> Backtraces<'l> {
     /// each.
     ///
     /// Returns `AllocError` if an allocation fails.
-    #[tactic(auto, using(crate::proofs::BacktraceLemmas::numbered_next))]
+    #[tactic(auto, using(crate::proofs::ListLemmas::numbered_next))]
     pub fn find(
         alloc: Global,
         crash: &Crash<'_>,
@@ -98,39 +96,15 @@ fn backtrace_on<'l>(
     ensures { IfOk result (λ b. backtrace_of b
         ≡ backtrace_on (known_of symbols.now) scan (stack_of stack.now, context.now)) }
 {
-    match walk_by_symbols(alloc, stack, context, symbols.files.as_slice(), scan) {
-        Ok(walk) => backtrace_by(alloc, stack, symbols, &walk),
-        Err(_) => Err(AllocError),
-    }
-}
-
-// Returns a walk with the module and the names of each frame.
-fn backtrace_by<'l>(
-    alloc: Global,
-    stack: &Stack<'_, '_>,
-    symbols: &Symbols<'l>,
-    walk: &SymbolWalk,
-) -> Result<Backtrace<'l>, AllocError>
-    ensures { IfOk result (λ b. backtrace_of b ≡ backtrace_by (stack_of stack.now)
-        (known_of symbols.now).files (symbol_walk_of walk.now)) }
-{
+    let Ok(walk) = walk_by_symbols(alloc, stack, context, symbols.files.as_slice(), scan) else {
+        return Err(AllocError);
+    };
     let plain = plain_frames(alloc, walk.frames.as_slice())?;
     Ok(Backtrace {
         frames: frames_by(alloc, stack, symbols, plain.as_slice())?,
         candidates: frames_by(alloc, stack, symbols, walk.candidates.as_slice())?,
         end: walk.end,
     })
-}
-
-// Returns the frames alone.
-fn plain_frames(alloc: Global, frames: &[KnownFrame]) -> Result<Vec<StackFrame>, AllocError>
-    ensures { IfOk result (λ plain. plain.items ≡ plain_frames (map frame_of frames.now)) }
-{
-    let mut plain = Vec::new(alloc);
-    for known in frames {
-        plain.push(known.frame)?;
-    }
-    Ok(plain)
 }
 
 // Returns frames, each with its module and its names.

@@ -3,15 +3,16 @@ ghost use Rattle.std.specs.Option.{option_map};
 ghost use Rattle.breakpad_symbols.specs.Function.{function_of};
 ghost use Rattle.breakpad_symbols.specs.SymbolFile.{symbols_of};
 ghost use Rattle.crash_symbols.specs.NameParts.{call_of, function_of as name_value, named_of, source_of};
-ghost use Rattle.crash_symbols.specs.Names.{calls_in, function_at, inlines_by, line_around};
+ghost use Rattle.crash_symbols.specs.Names.{calls_in, inlines_by, line_around};
 ghost use Rattle.crash_symbols.specs.Names.{line_at, named_at, named_in, public_name, source_of_call};
 ghost use Rattle.crash_symbols.specs.Symbols.{known_of};
 
 use crate::Symbols;
 use breakpad_symbols::{Function, InlineCall, SymbolFile};
 use crash::CrashFrame;
-use minidump_bytes::{LinuxOsStr, Steps};
+use minidump_bytes::LinuxOsStr;
 use std::alloc::{AllocError, Global};
+use symbol_walk::function_at;
 
 // How many calls in one another are looked for at most.
 const MAX_DEPTH: u32 = 1_000;
@@ -112,14 +113,6 @@ fn named_at<'l>(
     })
 }
 
-// Returns the kept function that has an offset.
-fn function_at<'l>(file: &'l SymbolFile<'l>, offset: u64) -> Option<&'l Function<'l>>
-    ensures { option_map (λ f. function_of f.now) result
-        ≡ function_at (symbols_of file.now) offset }
-{
-    file.function_at(offset, &mut Steps::new())
-}
-
 // Returns the name of the public symbol of an offset.
 fn public_name<'l>(file: &'l SymbolFile<'l>, offset: u64) -> Option<FrameFunction<'l>>
     ensures { option_map name_value result ≡ public_name (symbols_of file.now) offset }
@@ -180,7 +173,7 @@ fn calls_in(
 
 // Returns calls with their source lines, the innermost first, and the source line around all of them.
 // The calls are given by their depths, and the innermost stands at the given line.
-#[tactic(auto, using(crate::proofs::NameLemmas::last_first), unfolding(crate::specs::Names::inlines_by, crate::specs::Names::line_around))]
+#[tactic(auto, using(crate::proofs::ListLemmas::last_first), unfolding(crate::specs::Names::inlines_by, crate::specs::Names::line_around))]
 fn inlines_by<'l>(
     alloc: Global,
     file: &'l SymbolFile<'l>,

@@ -1,15 +1,13 @@
 ghost use Rattle.std.specs.Prelude.{◌≡◌, IfOk, map, take};
 ghost use Rattle.std.specs.Option.{option_copied, option_map};
-ghost use Rattle.crash_threads.specs.Frames.{crash_walk_of};
 ghost use Rattle.crash_threads.specs.Threads.{thread_value};
-ghost use Rattle.crash_symbols.specs.Backtraces.{backtrace_of};
 ghost use Rattle.crash_symbols.specs.NameParts.{named_of};
 ghost use Rattle.crash_symbols.specs.Names.{unnamed};
 ghost use Rattle.crash_symbols.specs.Shown.{first_frames, shown_frame_of, shown_in, shown_of};
-ghost use Rattle.crash_symbols.specs.Shown.{symbolized_of, unnamed_walk};
+ghost use Rattle.crash_symbols.specs.Shown.{symbolized_of};
 
-use crate::{Backtrace, FrameFunction, InlinedCall, NamedFrame, SourceLine, Symbolized};
-use crash::{CrashFrame, CrashThread, CrashWalk};
+use crate::{FrameFunction, InlinedCall, NamedFrame, SourceLine, Symbolized};
+use crash::{CrashFrame, CrashThread};
 use std::alloc::{AllocError, Global};
 use symbol_walk::SymbolWalkEnd;
 
@@ -41,7 +39,7 @@ impl<'s, 'l> ShownWalk<'s, 'l> {
     /// Returns the first frames, with the candidates after them, at most `limit` in all.
     ///
     /// Returns `AllocError` if an allocation fails.
-    #[tactic(auto, using(crate::proofs::ShownLemmas::first_values))]
+    #[tactic(auto, using(crate::proofs::ListLemmas::first_values))]
     pub fn first_frames(
         &self,
         alloc: Global,
@@ -81,30 +79,22 @@ pub fn shown_walk<'s, 'l: 's>(
 {
     match symbols {
         Some(symbols) => match symbols.backtraces.threads.get(number) {
-            Some(Some(backtrace)) => Ok(Some(named_walk(alloc, backtrace)?)),
+            Some(Some(backtrace)) => Ok(Some(ShownWalk {
+                frames: named_frames(alloc, backtrace.frames.as_slice())?,
+                candidates: named_frames(alloc, backtrace.candidates.as_slice())?,
+                end: backtrace.end,
+            })),
             Some(None) | None => Ok(None),
         },
         None => match &thread.walk {
-            Some(walk) => Ok(Some(unnamed_walk(alloc, walk)?)),
+            Some(walk) => Ok(Some(ShownWalk {
+                frames: unnamed_frames(alloc, walk.frames.as_slice())?,
+                candidates: unnamed_frames(alloc, walk.candidates.as_slice())?,
+                end: SymbolWalkEnd::Walk(walk.end),
+            })),
             None => Ok(None),
         },
     }
-}
-
-// Returns what is shown of a backtrace.
-fn named_walk<'s, 'l>(
-    alloc: Global,
-    backtrace: &'s Backtrace<'l>,
-) -> Result<ShownWalk<'s, 'l>, AllocError>
-    ensures { IfOk result (λ walk. shown_of walk ≡ backtrace_of backtrace.now) }
-{
-    let frames = named_frames(alloc, backtrace.frames.as_slice())?;
-    let candidates = named_frames(alloc, backtrace.candidates.as_slice())?;
-    Ok(ShownWalk {
-        frames,
-        candidates,
-        end: backtrace.end,
-    })
 }
 
 // Returns what is shown of frames with their names.
@@ -121,22 +111,6 @@ fn named_frames<'s, 'l>(
         inlines: named.inlines.as_slice(),
     });
     shown.collect(alloc)
-}
-
-// Returns what is shown of a walk without symbols.
-fn unnamed_walk<'s, 'l: 's>(
-    alloc: Global,
-    walk: &CrashWalk,
-) -> Result<ShownWalk<'s, 'l>, AllocError>
-    ensures { IfOk result (λ shown. shown_of shown ≡ unnamed_walk (crash_walk_of walk.now)) }
-{
-    let frames = unnamed_frames(alloc, walk.frames.as_slice())?;
-    let candidates = unnamed_frames(alloc, walk.candidates.as_slice())?;
-    Ok(ShownWalk {
-        frames,
-        candidates,
-        end: SymbolWalkEnd::Walk(walk.end),
-    })
 }
 
 // Returns what is shown of frames without names.

@@ -2,10 +2,10 @@ ghost use Rattle.std.specs.Prelude.{◌≡◌, ◌&&◌, ◌||◌, ◌<◌, ℕ,
 ghost use Rattle.std.specs.List.{list_any};
 ghost use Rattle.std.specs.Option.{option_map};
 ghost use Rattle.crash.specs.Crash.{crash_of};
-ghost use Rattle.crash_symbols.specs.Backtraces.{backtrace_of, backtraces_of};
+ghost use Rattle.crash_symbols.specs.Backtraces.{backtrace_of, backtraces_of, is_unwanted, lies_in};
+ghost use Rattle.crash_symbols.specs.Backtraces.{visits, wanted_in};
 ghost use Rattle.crash_symbols.specs.NameParts.{named_of};
 ghost use Rattle.crash_symbols.specs.Symbols.{known_of};
-ghost use Rattle.crash_symbols.specs.Wanted.{is_unwanted, lies_in, visits, wanted_in};
 
 use crate::{Backtrace, Backtraces, NamedFrame, SymbolState, Symbols};
 use crash::Crash;
@@ -23,33 +23,15 @@ impl Backtraces<'_> {
         ensures { IfOk result (λ wanted. wanted.items ≡ wanted_in (backtraces_of self.now)
             (known_of symbols.now).states (length (crash_of crash.now).modules.loaded)) }
     {
-        wanted_of(
-            alloc,
-            self.threads.as_slice(),
-            symbols,
-            crash.modules.loaded.len(),
-        )
-    }
-}
-
-// Returns the indices of the modules, of so many, whose symbol files are wanted.
-fn wanted_of(
-    alloc: Global,
-    threads: &[Option<Backtrace<'_>>],
-    symbols: &Symbols<'_>,
-    count: usize,
-) -> Result<Vec<usize>, AllocError>
-    ensures { IfOk result (λ wanted. wanted.items
-        ≡ wanted_in (map (option_map backtrace_of) threads.now) (known_of symbols.now).states count) }
-{
-    let visited = visited(alloc, threads, count)?;
-    let mut wanted = Vec::new(alloc);
-    for (index, is_visited) in visited.iter().enumerate() {
-        if is_wanted(symbols.state(index), *is_visited) {
-            wanted.push(index)?;
+        let visited = visited(alloc, self.threads.as_slice(), crash.modules.loaded.len())?;
+        let mut wanted = Vec::new(alloc);
+        for (index, is_visited) in visited.iter().enumerate() {
+            if is_wanted(symbols.state(index), *is_visited) {
+                wanted.push(index)?;
+            }
         }
+        Ok(wanted)
     }
-    Ok(wanted)
 }
 
 // Tells whether the symbol file of a module is wanted, by whether a frame lies in it.

@@ -1,7 +1,5 @@
 -- The definitions that the contracts cite: the text of a crash is `text_of` of Text.antt.
 pub mod Page
-pub mod Damage
-pub mod Frames
 pub mod Threads
 pub mod Modules
 pub mod Lists

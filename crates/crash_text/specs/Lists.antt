@@ -1,10 +1,19 @@
--- The lines of the lists of a dump: how many items each has and, if lists are asked for, the items.
-use Rattle.std.specs.Prelude.{ℕ, ◌++◌, ◌||◌, Bool, is_none, List, [], ◌∷◌, length, map}
-use Rattle.std.specs.Prelude.{Option, Some, Result, Ok, Err, codes, if◌then◌else◌}
+-- The lines of what can't be read, and of the lists of a dump: how many items each has and, if lists are
+-- asked for, the items.
+use Rattle.std.specs.Prelude.{ℕ, ◌++◌, List, [], ◌∷◌, map, Some, codes, ◌||◌, Bool, is_none, length}
+use Rattle.std.specs.Prelude.{Option, Result, Ok, Err, if◌then◌else◌}
 use Rattle.std.specs.Fmt.{decimal}
 use Rattle.std.specs.List.{concat}
-use Rattle.minidump.specs.declared.Error.{Error}
 use Rattle.minidump.specs.Below.Bytes.Piece.{hex}
+use Rattle.crash.specs.declared.damage.Damage.{Damage}
+use Rattle.crash.specs.declared.damage.Damage.TheVariants.{Entries, Exception, ExceptionContext}
+use Rattle.crash.specs.declared.damage.Damage.TheVariants.{Modules, Parameters, Records, Regions}
+use Rattle.crash.specs.declared.damage.Damage.TheVariants.{Stack, Stream, Texts, ThreadContext}
+use Rattle.crash_process.specs.declared.unreadable_modules.ModulePart.{ModulePart}
+use Rattle.crash_process.specs.declared.unreadable_modules.ModulePart.TheVariants.{CodeView, Name}
+use Rattle.crash_process.specs.declared.unreadable_modules.UnreadableModule.{UnreadableModule}
+use Rattle.crash.specs.Crash.{CrashValue}
+use Rattle.minidump.specs.declared.Error.{Error}
 use Rattle.minidump.specs.Below.MemoryLists.Unified.{UnifiedRegion, unified_regions}
 use Rattle.minidump.specs.Below.Modules.UnloadedModule.{UnloadedValue}
 use Rattle.minidump.specs.Below.Records.Descriptor.{handle}
@@ -14,13 +23,56 @@ use Rattle.crash_process.specs.declared.directory.StreamEntry.{StreamEntry}
 use Rattle.crash_process.specs.HandleKinds.{KindValue}
 use Rattle.crash_process.specs.Linux.{LimitValue, limits_in}
 use Rattle.crash_process.specs.Modules.{UnloadedModuleValue}
+use Rattle.crash_lines.specs.Words.{count_row, error_words, hex_if, id_words, key_text, lossy_if}
+use Rattle.crash_lines.specs.Words.{stream_text, text_if, words_or}
 use Rattle.crash_text.specs.declared.limits.TextLimits.{TextLimits}
-use Rattle.crash_lines.specs.Words.{stream_text}
 use Rattle.crash_lines.specs.Lines.{if_some}
 use Rattle.crash_text.specs.Modules.{all_modules}
-use Rattle.crash_lines.specs.Words.{key_text}
 use Rattle.crash_text.specs.Page.{PageValue}
-use Rattle.crash_lines.specs.Words.{count_row, error_words, hex_if, lossy_if, text_if, words_or}
+
+-- ---- what is there and can't be read
+
+-- the line of something that can't be read, or of bytes that are not in the file
+unfoldable pub damage_row : Damage → List ℕ
+damage_row (Stream number error) =
+    concat (codes "can't be read: " ∷ stream_text number ∷ error_words (Some error) ∷ [])
+damage_row (Entries count) =
+    concat (codes "outside the file: entries of the directory: " ∷ decimal count ∷ [])
+damage_row (Regions count) =
+    concat (codes "outside the file: regions of the plain list of memory: " ∷ decimal count ∷ [])
+damage_row (Modules count) =
+    concat (codes "can't be read: modules without addresses: " ∷ decimal count ∷ [])
+damage_row (Texts number count) = concat (codes "can't be read: texts of " ∷ stream_text number
+    ∷ codes ": " ∷ decimal count ∷ [])
+damage_row (Records number count) = concat (codes "can't be read: records of "
+    ∷ stream_text number ∷ codes ": " ∷ decimal count ∷ [])
+damage_row (Exception error) =
+    concat (codes "can't be read: an exception before the last" ∷ error_words (Some error) ∷ [])
+damage_row (Parameters thread count) =
+    concat (codes "can't be read: parameters of the exception on thread " ∷ id_words thread
+    ∷ codes ": " ∷ decimal count ∷ [])
+damage_row (ExceptionContext thread) =
+    concat (codes "outside the file: the context of the exception on thread " ∷ id_words thread ∷ [])
+damage_row (ThreadContext thread) =
+    concat (codes "outside the file: the context of thread " ∷ id_words thread ∷ [])
+damage_row (Stack thread) =
+    concat (codes "outside the file: the stack of thread " ∷ id_words thread ∷ [])
+
+-- the words for a part of a module's entry
+abbrev pub part_words : ModulePart → List ℕ
+part_words Name = codes "the name of module "
+part_words CodeView = codes "the CodeView record of module "
+
+-- the line of a module of which a part can't be read
+unfoldable pub unreadable_line : UnreadableModule → List ℕ
+unreadable_line m = concat (codes "can't be read: " ∷ part_words m.part ∷ decimal m.index
+    ∷ codes " at " ∷ hex m.base ∷ codes ", " ∷ hex m.size ∷ codes " bytes" ∷ [])
+
+-- all of it
+abbrev pub damage_lines : CrashValue → List (List ℕ)
+damage_lines c = map damage_row c.damage ++ map unreadable_line c.modules.unreadable
+
+-- ---- lists
 
 -- the number of items, and the lines of them if they are asked for
 abbrev pub list_lines : {X : Type 0} → Bool → List ℕ → (X → List ℕ) → List X → List (List ℕ)
@@ -40,7 +92,7 @@ entry_line e = concat (codes "    " ∷ stream_text e.number ∷ codes " (" ∷ 
 -- identifier of its code file
 unfoldable pub unloaded_line : UnloadedModuleValue → List ℕ
 unloaded_line m = concat (codes "    " ∷ hex m.base ∷ hex_if (codes "-") m.end ∷ codes " " ∷ m.path
-    ∷ key_text (codes ", code ") (Some m.file) m.code_id ∷ [])
+    ∷ key_text (codes ", code ") m.file m.code_id ∷ [])
 
 -- the modules that were unloaded, where their list can be read
 abbrev pub unloaded_lines : TextLimits → List UnloadedModuleValue

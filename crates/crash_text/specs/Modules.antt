@@ -17,7 +17,7 @@ use Rattle.crash_symbols.specs.Symbols.{state_at}
 use Rattle.crash_text.specs.declared.limits.TextLimits.{TextLimits}
 use Rattle.crash_text.specs.Page.{PageValue, if_asked}
 use Rattle.crash_text.specs.Threads.{frames_in}
-use Rattle.crash_lines.specs.Words.{count_row, hex_if, if_missing, key_text, version_text}
+use Rattle.crash_lines.specs.Words.{count_row, hex_if, if_missing, key_text, text_if}
 
 -- ---- a module
 
@@ -43,9 +43,9 @@ symbols_text None index = []
 -- and of its code file; and the words for its symbols
 unfoldable pub module_line : Bool → LoadedValue → List ℕ → List ℕ
 module_line is_asked m symbols = concat (codes "    " ∷ hex m.base
-    ∷ hex_if (codes "-") (if_asked is_asked m.end) ∷ codes " " ∷ m.path ∷ version_text m.version
-    ∷ key_text (codes ", debug ") m.debug_file m.debug_id
-    ∷ key_text (codes ", code ") (Some m.file) m.code_id ∷ symbols ∷ [])
+    ∷ hex_if (codes "-") (if_asked is_asked m.end) ∷ codes " " ∷ m.path
+    ∷ text_if (codes ", version ") m.version [] ∷ text_if (codes ", debug ") m.debug_file []
+    ∷ text_if (codes "/") m.debug_id [] ∷ key_text (codes ", code ") m.file m.code_id ∷ symbols ∷ [])
 
 -- ---- those that are listed
 

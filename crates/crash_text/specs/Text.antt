@@ -5,7 +5,7 @@ use Rattle.crash.specs.Crash.{CrashValue}
 use Rattle.crash_symbols.specs.Shown.{SymbolizedValue}
 use Rattle.crash_symbols.specs.Signature.{signature_in}
 use Rattle.crash_text.specs.declared.limits.TextLimits.{TextLimits}
-use Rattle.crash_text.specs.Damage.{damage_lines}
+use Rattle.crash_text.specs.Lists.{damage_lines}
 use Rattle.crash_lines.specs.Exceptions.{crash_lines, none_lines}
 use Rattle.crash_lines.specs.Lines.{line_of, table}
 use Rattle.crash_text.specs.Lists.{lists_lines}

@@ -1,24 +1,148 @@
--- The lines of threads.
-use Rattle.std.specs.Prelude.{ℕ, ◌++◌, ◌==◌, ◌&&◌, ◌||◌, Bool, false, true, List, [], ◌∷◌, Option}
-use Rattle.std.specs.Prelude.{Some, None, codes, if◌then◌else◌, is_none, map, not}
+-- The lines of threads and of their frames, and which frames are printed.
+use Rattle.std.specs.Prelude.{ℕ, ◌++◌, ◌-◌, Bool, List, [], ◌∷◌, length, map, codes}
+use Rattle.std.specs.Prelude.{if◌then◌else◌, take, unwrap_or, Option, Some, None, ◌==◌, ◌&&◌, ◌||◌}
+use Rattle.std.specs.Prelude.{false, true, is_none, not}
+use Rattle.std.specs.Fmt.{decimal}
 use Rattle.std.specs.List.{concat, enumerate_from, flat_map}
-use Rattle.std.specs.Option.{option_map_or}
+use Rattle.std.specs.Option.{option_map, option_map_or}
+use Rattle.stack_walk.specs.declared.end.WalkEnd.TheVariants.{BelowStackPointer, NoCode}
+use Rattle.stack_walk.specs.declared.end.WalkEnd.TheVariants.{NoFramePointer, NoMemory, NoRecord}
+use Rattle.stack_walk.specs.declared.end.WalkEnd.TheVariants.{UnknownWidth, ZeroFramePointer}
+use Rattle.stack_walk.specs.declared.frame.FrameTrust.{FrameTrust}
+use Rattle.stack_walk.specs.declared.frame.FrameTrust.TheVariants.{Cfi, Context, FramePointer, Link}
+use Rattle.stack_walk.specs.declared.frame.FrameTrust.TheVariants.{Scan}
 use Rattle.minidump.specs.Below.Bytes.Piece.{hex}
-use Rattle.crash_threads.specs.declared.contexts.ContextProblem.{ContextProblem}
-use Rattle.crash_threads.specs.declared.contexts.ContextProblem.TheVariants.{NoSystem, NotAccepted, Outside}
+use Rattle.symbol_walk.specs.declared.walk.SymbolWalkEnd.{SymbolWalkEnd}
+use Rattle.symbol_walk.specs.declared.walk.SymbolWalkEnd.TheVariants.{NoReturnRule, Walk}
+use Rattle.symbol_walk.specs.declared.walk.SymbolWalkEnd.TheVariants.{ZeroReturnAddress}
 use Rattle.crash_threads.specs.declared.frames.CrashFrame.{CrashFrame}
+use Rattle.crash_process.specs.Modules.{LoadedValue}
+use Rattle.crash_symbols.specs.Backtraces.{BacktraceValue}
+use Rattle.crash_symbols.specs.NameParts.{call_of}
+use Rattle.crash_symbols.specs.Names.{CallValue, NamedFrameValue, SourceValue}
+use Rattle.crash_symbols.specs.Shown.{all_frames, first_frames, shown_frame_of, shown_in}
+use Rattle.crash_threads.specs.declared.contexts.ContextProblem.{ContextProblem}
+use Rattle.crash_threads.specs.declared.contexts.ContextProblem.TheVariants.{NoSystem, NotAccepted}
+use Rattle.crash_threads.specs.declared.contexts.ContextProblem.TheVariants.{Outside}
 use Rattle.crash_threads.specs.declared.stacks.StackRange.{StackRange}
 use Rattle.crash_threads.specs.Contexts.{unaccepted_size}
 use Rattle.crash_process.specs.Process.{SystemValue}
 use Rattle.crash_threads.specs.Threads.{ThreadValue, crashed_thread, short_context}
-use Rattle.crash_symbols.specs.Backtraces.{BacktraceValue}
-use Rattle.crash_symbols.specs.Shown.{shown_in}
+use Rattle.crash_text.specs.declared.threads.FrameEntry.{FrameEntry}
 use Rattle.crash_text.specs.declared.limits.TextLimits.{TextLimits}
-use Rattle.crash_text.specs.Frames.{printed_frames, walk_lines}
 use Rattle.crash_lines.specs.Lines.{if_some, table}
-use Rattle.crash_text.specs.Page.{PageValue}
-use Rattle.crash_lines.specs.Registers.{short_if}
-use Rattle.crash_lines.specs.Words.{decimal_if, id_words, missing_lines, text_if, words_or}
+use Rattle.crash_text.specs.Page.{PageValue, if_asked}
+use Rattle.crash_lines.specs.Words.{count_if, decimal_if, hex_if, hex_unless, id_words, line_text}
+use Rattle.crash_lines.specs.Words.{lossy_if, missing_lines, place_text, text_if, words_or}
+use Rattle.crash_lines.specs.Point.{short_if}
+
+-- ---- a frame, and the inlined calls there
+
+-- a frame, and a call where it is an inlined one there
+abbrev pub EntryValue : Type 0
+EntryValue = NamedFrameValue × Option CallValue
+
+-- the same of a `FrameEntry`
+abbrev pub entry_of : FrameEntry → EntryValue
+entry_of e = (shown_frame_of e.frame, option_map call_of e.call)
+
+-- the inlined calls at a frame, the innermost first
+abbrev pub call_entries : NamedFrameValue → List EntryValue
+call_entries f = map (λ c. (f, Some c)) f.inlines
+
+-- the same, and then the frame
+abbrev pub entries_of : NamedFrameValue → List EntryValue
+entries_of f = call_entries f ++ (f, None) ∷ []
+
+-- those of frames
+unfoldable pub entries_in : List NamedFrameValue → List EntryValue
+entries_in frames = flat_map entries_of frames
+
+-- ---- the line of a frame
+
+-- the words for how a frame was found
+abbrev pub found_text : FrameTrust → List ℕ
+found_text Context = codes ", context"
+found_text Cfi = codes ", call frame information"
+found_text FramePointer = codes ", frame pointer"
+found_text Scan = codes ", scan"
+found_text Link = codes ", link register"
+
+-- the words for a source line
+abbrev pub source_text : Option SourceValue → List ℕ
+source_text (Some s) = line_text s.file s.line
+source_text None = []
+
+-- the address of a frame: that by which it is looked up, which lies in the call of a caller, or the
+-- instruction where there is none
+abbrev pub printed_address : CrashFrame → ℕ
+printed_address f = unwrap_or f.address f.instruction
+
+-- the line of an inlined call at a frame: its number, the frame's address, its function, its source line
+-- and the frame's module
+unfoldable pub call_line : List LoadedValue → ℕ → CrashFrame → CallValue → List ℕ
+call_line modules number f c = concat (codes "    #" ∷ decimal number ∷ codes " "
+    ∷ hex (printed_address f) ∷ lossy_if (codes " ") c.function ∷ source_text c.source
+    ∷ place_text modules (codes " in no module") f.«module» ∷ codes ", inline" ∷ [])
+
+-- the line of a frame: its number, its address, its function with the offset in it, its source line, its
+-- module, and how it was found; then, where they are asked for, its instruction if that isn't the
+-- address, its stack pointer and its frame pointer
+unfoldable pub frame_line : Bool → List LoadedValue → ℕ → NamedFrameValue → List ℕ
+frame_line is_asked modules number f = concat (codes "    #" ∷ decimal number ∷ codes " "
+    ∷ hex (printed_address f.frame) ∷ lossy_if (codes " ") (option_map (λ g. g.name) f.function)
+    ∷ hex_if (codes " + ") (option_map (λ g. g.offset) f.function) ∷ source_text f.line
+    ∷ place_text modules (codes " in no module") f.frame.«module» ∷ found_text f.frame.trust
+    ∷ hex_unless (printed_address f.frame) (codes ", instruction ")
+    (if_asked is_asked (Some f.frame.instruction))
+    ∷ hex_if (codes ", stack pointer ") (if_asked is_asked (Some f.frame.stack_pointer))
+    ∷ hex_if (codes ", frame pointer ") (if_asked is_asked f.frame.frame_pointer) ∷ [])
+
+-- the line of either
+abbrev pub entry_line : Bool → List LoadedValue → ℕ → NamedFrameValue → Option CallValue → List ℕ
+entry_line is_asked modules number f (Some c) = call_line modules number f.frame c
+entry_line is_asked modules number f None = frame_line is_asked modules number f
+
+-- frames and calls, each with its number
+abbrev pub each_entry : Bool → List LoadedValue → List EntryValue → List (List ℕ)
+each_entry is_asked modules entries =
+    map (λ p. entry_line is_asked modules p.0 p.1.0 p.1.1) (enumerate_from 0 entries)
+
+-- ---- the frames of a thread
+
+-- the frames of a thread that are printed: as many as the limit says, of the frames and the
+-- candidates, or the first alone
+abbrev pub printed_frames : TextLimits → Bool → BacktraceValue → List NamedFrameValue
+printed_frames limits is_whole w =
+    if is_whole then first_frames limits.frames w else take 1 w.frames
+
+-- why a walk ends, in words
+abbrev pub end_text : SymbolWalkEnd → List ℕ
+end_text (Walk NoMemory) = codes "no memory of its stack"
+end_text (Walk UnknownWidth) = codes "unknown width of an address"
+end_text (Walk NoFramePointer) = codes "no frame pointer"
+end_text (Walk ZeroFramePointer) = codes "frame pointer of 0"
+end_text (Walk BelowStackPointer) = codes "frame pointer below the stack pointer"
+end_text (Walk NoRecord) = codes "no frame record at the frame pointer"
+end_text (Walk NoCode) = codes "return address in no module"
+end_text NoReturnRule = codes "no rule for the return address"
+end_text ZeroReturnAddress = codes "return address of 0"
+
+-- what comes after the frames of a thread whose frames are all printed: how many more there are
+-- beyond the limit, the end of its walk, and how many of all of them are candidates, which follow
+-- the last caller
+unfoldable pub rest_lines : TextLimits → BacktraceValue → List (List ℕ)
+rest_lines limits w = table (
+    (count_if (codes "    and ") (length (all_frames w) - limits.frames) (codes " more") ∷ [])
+    ∷ (codes "    end: " ∷ end_text w.end ∷ [])
+    ∷ (count_if (codes "    candidates: ") (length w.candidates) [] ∷ [])
+    ∷ [])
+
+-- what is found in the stack of a thread
+abbrev pub walk_lines : PageValue → Bool → BacktraceValue → List (List ℕ)
+walk_lines p is_whole w =
+    each_entry p.limits.lists p.crash.modules.loaded (entries_in (printed_frames p.limits is_whole w))
+    ++ (if is_whole then rest_lines p.limits w else [])
 
 -- ---- a thread
 
@@ -32,10 +156,11 @@ heading_lines t = table (
     ∷ (short_if (codes "    ") (short_context t) ∷ [])
     ∷ [])
 
--- the line of a range of addresses after words
-unfoldable pub range_row : List ℕ → StackRange → List ℕ
-range_row words range =
-    concat (words ∷ hex range.base ∷ codes ", " ∷ hex range.size ∷ codes " bytes" ∷ [])
+-- the line of a range of addresses after words, and whether it is absent
+unfoldable pub range_row : List ℕ → StackRange → Bool → List ℕ
+range_row words range is_absent =
+    concat (words ∷ hex range.base ∷ codes ", " ∷ hex range.size ∷ codes " bytes"
+    ∷ words_or is_absent (codes ", no memory where it begins") [] ∷ [])
 
 -- a range is another
 abbrev pub is_range : StackRange → Option StackRange → Bool
@@ -45,17 +170,19 @@ is_range range None = false
 -- the memory of a stack, where it isn't the stack as its entry names it
 abbrev pub memory_lines : Option StackRange → StackRange → List (List ℕ)
 memory_lines stack memory =
-    if is_range memory stack then [] else range_row (codes "    stack memory ") memory ∷ []
+    if is_range memory stack then [] else range_row (codes "    stack memory ") memory false ∷ []
 
--- the stack of a thread as its entry names it, and its memory
+-- the stack of a thread as its entry names it, with whether the dump lacks it, and its memory
 abbrev pub stack_lines : Option StackRange → Option StackRange → List (List ℕ)
-stack_lines stack memory = if_some (λ range. range_row (codes "    stack ") range ∷ []) stack
+stack_lines stack memory =
+    if_some (λ range. range_row (codes "    stack ") range (is_none memory) ∷ []) stack
     ++ if_some (memory_lines stack) memory
 
--- words, and how many bytes there are of a context that isn't accepted
-unfoldable pub unaccepted_row : List ℕ → Option ContextProblem → List ℕ
-unaccepted_row words problem =
-    concat (words ∷ decimal_if (codes ", ") (unaccepted_size problem) (codes " bytes") ∷ [])
+-- the line of words on a context, where there are any, and how many bytes there are of it where it isn't
+-- accepted
+unfoldable pub context_lines : List ℕ → Option ContextProblem → List (List ℕ)
+context_lines words problem =
+    table ((words ∷ decimal_if (codes ", ") (unaccepted_size problem) (codes " bytes") ∷ []) ∷ [])
 
 -- the words for why a thread has no frames
 abbrev pub no_walk_words : Option SystemValue → Option ContextProblem → List ℕ
@@ -63,20 +190,20 @@ no_walk_words (Some _) (Some Outside) = codes "    its context is outside the fi
 no_walk_words (Some _) _ = codes "    no context that can be read"
 no_walk_words None problem = codes "    no frames without system information"
 
--- why the own context of a thread isn't used, whose frames are those of the exception's context.
--- That the system is unknown is said elsewhere
-abbrev pub own_lines : Option ContextProblem → List (List ℕ)
-own_lines (Some Outside) = codes "    its own context is outside the file" ∷ []
-own_lines (Some (NotAccepted size)) =
-    unaccepted_row (codes "    its own context can't be read") (Some (NotAccepted size)) ∷ []
-own_lines (Some NoSystem) = []
-own_lines None = []
+-- the words for why the own context of a thread isn't used, whose frames are those of the exception's
+-- context. That the system is unknown is said elsewhere
+abbrev pub own_words : Option ContextProblem → List ℕ
+own_words (Some Outside) = codes "    its own context is outside the file"
+own_words (Some (NotAccepted size)) = codes "    its own context can't be read"
+own_words (Some NoSystem) = []
+own_words None = []
 
 -- what is found in the stack of a thread, or why nothing is
 abbrev pub found_lines : PageValue → Bool → ThreadValue → Option BacktraceValue → List (List ℕ)
-found_lines p is_whole t (Some w) = own_lines t.context_problem ++ walk_lines p is_whole w
+found_lines p is_whole t (Some w) =
+    context_lines (own_words t.context_problem) t.context_problem ++ walk_lines p is_whole w
 found_lines p is_whole t None =
-    unaccepted_row (no_walk_words p.crash.process.system t.context_problem) t.context_problem ∷ []
+    context_lines (no_walk_words p.crash.process.system t.context_problem) t.context_problem
 
 -- a thread by its index, with its stack and the end of its walk if all of its frames are asked for
 abbrev pub thread_lines : PageValue → Bool → ℕ → ThreadValue → List (List ℕ)

@@ -8,32 +8,32 @@
 //!   with which macOS was booted, the date of the dump in UTC, the path of the program, the id of
 //!   the process and that of its parent, for how long it ran, how much of it was in memory, its
 //!   command line, and the comments of the dump;
-//! - of the exception that counts the thread, the address with its module, the reason, the code
-//!   and where it happened, and LLDB's description, which is printed in place of its flags and
-//!   parameters; why the context of the exception isn't used, how much of the registers' context
-//!   there is if it is cut, and the registers of the thread, four a row; its flags and segments,
-//!   the flags that are set, the registers whose values lie in a module or a stack, its instruction
-//!   pointer, unless it is in a module and may be run, the bytes there, and the words at its
-//!   stack pointer; then, if there are several, all exceptions, each with its address, unless it
-//!   happened there, and with why its context can't be read;
+//! - of the exception that counts the thread, the address with its module, the reason, the code,
+//!   where it happened, what else its record says, why its context can't be read, and LLDB's
+//!   description; how much of the registers' context there is if it is cut, and the registers of
+//!   the thread, four a row; its flags and segments, the flags that are set, the registers whose
+//!   values lie in a module or a stack, its instruction pointer, unless it is in a module and may
+//!   be run, the bytes there, and the words at its stack pointer; then, if there are several, all
+//!   exceptions, each with its address, unless it happened there, or that it has none, and with the
+//!   same;
 //! - the signature of the crash: its reason, and the first three frames in a module, each by its
 //!   function, else by its module and the offset in it;
 //! - what is there and can't be read, as `can't be read: ThreadListStream: StreamReadFailure`, the
 //!   modules for which their list can't be read, and how many entries of the directory have bytes
 //!   outside the file;
-//! - the thread that crashed, with its name, its last error, its stack, why its own context can't
-//!   be read, its frames, and why the last of them has no caller;
+//! - the thread that crashed, with its name, its last error, its stack, and whether the dump has no
+//!   memory where that begins, why its own context can't be read, its frames, and why the last of
+//!   them has no caller;
 //! - what the process itself said: an assertion, the identifiers of Crashpad's report and of its
 //!   client with the annotations of the process and of each module, macOS's crash information and
 //!   Mozilla's soft errors;
 //! - each other thread with its name, its last error and its first frame, or as the one that
 //!   crashed if all threads are asked for, or none crashed;
 //! - the number of modules; then each module that has the address of the crash or a printed frame,
-//!   in the order of their addresses: its base address, its path, its version unless that is
-//!   0.0.0.0, and what a symbol server needs: the name and the identifier of its debug file and of
-//!   its code file. Where all modules are asked for, each has a line, and the unloaded ones do
-//!   below their number, in which the address after it follows its base address, as
-//!   `0x400000-0x410000`;
+//!   in the order of their addresses: its base address, its path, its version, and what a symbol
+//!   server needs: the name of its debug file, with its identifier if there is one, and the name and
+//!   the identifier of its code file, if there is one. Where all modules are asked for, each has a line, and the unloaded ones do below their number, in which
+//!   the address after it follows its base address, as `0x400000-0x410000`;
 //! - the numbers of unloaded modules, streams, regions of memory, maps and handles, with a line for
 //!   each kind of handles, and Linux's numbers of limits and of variables of the environment.
 //!
@@ -71,8 +71,6 @@
 //! - It has no control character below 0x20 but the ends of its lines, and no 0x7f: [`text_of`].
 #![tactic(auto)]
 
-mod damage;
-mod frames;
 mod limits;
 mod lists;
 mod modules;

@@ -1,24 +1,37 @@
-//! The lines of the lists of a dump.
-ghost use Rattle.std.specs.Prelude.{ℕ, List, [], ◌∷◌, codes, map};
+//! The lines of the lists of a dump, and of what can't be read.
+ghost use Rattle.std.specs.Prelude.{ℕ, List, [], ◌∷◌, codes, map, ◌≡◌};
+ghost use Rattle.std.specs.List.{flat_map};
 ghost use Rattle.minidump.specs.Below.Contexts.Context.{map_ok};
-ghost use Rattle.minidump.specs.Below.MemoryLists.Unified.{unified_list, unified_regions};
+ghost use Rattle.minidump.specs.Below.MemoryLists.Unified.{UnifiedRegion, unified_list};
+ghost use Rattle.minidump.specs.Below.MemoryLists.Unified.{unified_region, unified_regions};
 ghost use Rattle.minidump.specs.Promise.{handle_data_stream, linux_environ_stream};
 ghost use Rattle.minidump.specs.Promise.{linux_proc_limits_stream, unloaded_module_list_stream};
-ghost use Rattle.crash_process.specs.HandleKinds.{kind_of};
-ghost use Rattle.crash_process.specs.Modules.{unloaded_module_of};
+ghost use Rattle.crash_process.specs.HandleKinds.{KindValue, kind_of};
+ghost use Rattle.crash_process.specs.Modules.{UnloadedModuleValue, unloaded_module_of};
+ghost use Rattle.crash.specs.Crash.{crash_of};
+ghost use Rattle.crash_process.specs.declared.directory.StreamEntry.{StreamEntry};
+ghost use Rattle.minidump.specs.Below.Records.Handles.{Handle, handle_of};
+ghost use Rattle.crash_process.specs.Linux.{LimitValue, limit_of};
+ghost use Rattle.minidump.specs.Below.Bytes.LinuxOsStr.{parts_of};
+ghost use Rattle.crash.specs.declared.damage.Damage.{Damage};
+ghost use Rattle.crash_process.specs.declared.unreadable_modules.UnreadableModule.{UnreadableModule};
 ghost use Rattle.crash_lines.specs.Lines.{Adds};
-ghost use Rattle.crash_text.specs.Lists.{environment_lines, handles_lines, limits_lines};
-ghost use Rattle.crash_text.specs.Lists.{list_lines, lists_lines, memory_lines};
-ghost use Rattle.crash_text.specs.Lists.{region_line, unloaded_lines};
+ghost use Rattle.crash_lines.specs.Parts.{part_text};
+ghost use Rattle.crash_text.specs.Lists.{damage_lines, damage_row, entry_line, environment_lines};
+ghost use Rattle.crash_text.specs.Lists.{handle_line, handles_lines, kind_line, limit_line};
+ghost use Rattle.crash_text.specs.Lists.{limits_lines, list_lines, lists_lines, memory_lines};
+ghost use Rattle.crash_text.specs.Lists.{part_words, region_line, unloaded_line, unloaded_lines};
+ghost use Rattle.crash_text.specs.Lists.{unreadable_line, variable_line};
 ghost use Rattle.crash_text.specs.Page.{page_of};
 
 use crate::limits::TextLimits;
 use crate::text::Page;
 use crash::{
-    HandleKind, ProcessLimit, StreamEntry, UnloadedModule, limits_of, regions_of, variables_of,
+    Crash, Damage, HandleKind, ModulePart, ProcessLimit, StreamEntry, UnloadedModule,
+    UnreadableModule, limits_of, regions_of, variables_of,
 };
-use crash_lines::Part::{Decimal, Failed, Hex, HexIf, If, Key, Lossy, Stream, Text, Words};
-use crash_lines::{Added, push_count, push_row};
+use crash_lines::Part::{Decimal, Failed, Hex, HexIf, Id, If, Key, Lossy, Stream, Text, Words};
+use crash_lines::{Added, Part, push_count, push_row};
 use minidump::strings::LinuxOsStr;
 use minidump::{
     Error, MinidumpHandleDataStream, MinidumpHandleDescriptor, MinidumpLinuxEnviron,
@@ -108,9 +121,6 @@ fn push_unloaded(
 }
 
 impl Line for UnloadedModule {
-    ghost use Rattle.crash_process.specs.Modules.{UnloadedModuleValue};
-    ghost use Rattle.crash_text.specs.Lists.{unloaded_line};
-
     ghost Value = { UnloadedModuleValue };
 
     ghost value_of = { unloaded_module_of };
@@ -122,15 +132,12 @@ impl Line for UnloadedModule {
     fn push(&self, out: &mut String) -> Added {
         push_row(out, &[
             Words("    "), Hex(self.base), HexIf("-", self.end), Words(" "),
-            Words(self.path.as_str()), Key(", code ", Some(&self.file), &self.code_id),
+            Words(self.path.as_str()), Key(", code ", self.file.as_str(), &self.code_id),
         ])
     }
 }
 
 impl Line for StreamEntry {
-    ghost use Rattle.crash_process.specs.declared.directory.StreamEntry.{StreamEntry};
-    ghost use Rattle.crash_text.specs.Lists.{entry_line};
-
     ghost Value = { StreamEntry };
 
     ghost value_of = { λ e. e };
@@ -180,8 +187,6 @@ fn push_regions(out: &mut String, limits: &TextLimits, memory: &UnifiedMemoryLis
 }
 
 impl Line for UnifiedMemory<'_, '_> {
-    ghost use Rattle.minidump.specs.Below.MemoryLists.Unified.{UnifiedRegion, unified_region};
-
     ghost Value = { UnifiedRegion };
 
     ghost value_of = { unified_region };
@@ -225,9 +230,6 @@ fn push_handles(
 }
 
 impl Line for HandleKind {
-    ghost use Rattle.crash_process.specs.HandleKinds.{KindValue};
-    ghost use Rattle.crash_text.specs.Lists.{kind_line};
-
     ghost Value = { KindValue };
 
     ghost value_of = { kind_of };
@@ -244,9 +246,6 @@ impl Line for HandleKind {
 }
 
 impl Line for MinidumpHandleDescriptor {
-    ghost use Rattle.minidump.specs.Below.Records.Handles.{Handle, handle_of};
-    ghost use Rattle.crash_text.specs.Lists.{handle_line};
-
     ghost Value = { Handle };
 
     ghost value_of = { handle_of };
@@ -286,9 +285,6 @@ fn push_limits(
 }
 
 impl Line for ProcessLimit {
-    ghost use Rattle.crash_process.specs.Linux.{LimitValue, limit_of};
-    ghost use Rattle.crash_text.specs.Lists.{limit_line};
-
     ghost Value = { LimitValue };
 
     ghost value_of = { limit_of };
@@ -332,9 +328,6 @@ fn push_environment(
 
 // A variable, by its name and its value.
 impl Line for (LinuxOsStr<'_>, LinuxOsStr<'_>) {
-    ghost use Rattle.minidump.specs.Below.Bytes.LinuxOsStr.{parts_of};
-    ghost use Rattle.crash_text.specs.Lists.{variable_line};
-
     ghost Value = { List ℕ × List ℕ };
 
     ghost value_of = { parts_of };
@@ -350,5 +343,95 @@ impl Line for (LinuxOsStr<'_>, LinuxOsStr<'_>) {
                 Lossy("=", Some(self.1)),
             ],
         )
+    }
+}
+
+// ---- what is there and can't be read
+
+// Appends the lines of what is there and can't be read.
+#[tactic(auto, using(crash_lines::proofs::LineLemmas::values))]
+pub(crate) fn push_damage(out: &mut String, crash: &Crash<'_>) -> Added
+    ensures { Adds out.old out.new (damage_lines (crash_of crash.now)) result }
+{
+    push_each(out, crash.damage.as_slice())?;
+    push_each(out, crash.modules.unreadable.as_slice())
+}
+
+impl Line for Damage {
+    ghost Value = { Damage };
+
+    ghost value_of = { λ d. d };
+
+    ghost line = { damage_row };
+
+    fn push(&self, out: &mut String) -> Added {
+        push_row(out, &parts_of(*self))
+    }
+}
+
+// Returns the parts of the row of something that can't be read.
+#[rattlefmt::skip]
+#[tactic(auto, unfolding(crate::specs::Lists::damage_row))]
+fn parts_of(damage: Damage) -> [Part<'static>; 4]
+    ensures { flat_map part_text result ≡ damage_row damage }
+{
+    let none = Words("");
+    match damage {
+        Damage::Stream { number, error } =>
+            [Words("can't be read: "), Stream(number), Failed(Some(error)), none],
+        Damage::Entries { count } =>
+            [Words("outside the file: entries of the directory: "), Decimal(count), none, none],
+        Damage::Regions { count } => [
+            Words("outside the file: regions of the plain list of memory: "), Decimal(count),
+            none, none,
+        ],
+        Damage::Modules { count } =>
+            [Words("can't be read: modules without addresses: "), Decimal(count), none, none],
+        Damage::Texts { number, count } =>
+            [Words("can't be read: texts of "), Stream(number), Words(": "), Decimal(count)],
+        Damage::Records { number, count } =>
+            [Words("can't be read: records of "), Stream(number), Words(": "), Decimal(count)],
+        Damage::Exception { error } => [
+            Words("can't be read: an exception before the last"), Failed(Some(error)), none, none,
+        ],
+        Damage::Parameters { thread, count } => [
+            Id("can't be read: parameters of the exception on thread ", Some(thread)),
+            Words(": "), Decimal(count), none,
+        ],
+        Damage::ExceptionContext { thread } => [
+            Id("outside the file: the context of the exception on thread ", Some(thread)),
+            none, none, none,
+        ],
+        Damage::ThreadContext { thread } =>
+            [Id("outside the file: the context of thread ", Some(thread)), none, none, none],
+        Damage::Stack { thread } =>
+            [Id("outside the file: the stack of thread ", Some(thread)), none, none, none],
+    }
+}
+
+// Returns the words for a part of a module's entry.
+fn part_words(part: ModulePart) -> &'static str
+    ensures { result.now ≡ part_words part }
+{
+    match part {
+        ModulePart::Name => "the name of module ",
+        ModulePart::CodeView => "the CodeView record of module ",
+    }
+}
+
+impl Line for UnreadableModule {
+    ghost Value = { UnreadableModule };
+
+    ghost value_of = { λ m. m };
+
+    ghost line = { unreadable_line };
+
+    #[rattlefmt::skip]
+    #[tactic(auto, unfolding(crate::specs::Lists::unreadable_line))]
+    fn push(&self, out: &mut String) -> Added {
+        push_row(out, &[
+            Words("can't be read: "), Words(part_words(self.part)), Decimal(self.index as u64),
+            Words(" at "), Hex(self.base), Words(", "), Hex(self.size as u64), Words(" bytes"),
+        ])
     }
 }

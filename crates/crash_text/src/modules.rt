@@ -9,7 +9,7 @@ ghost use Rattle.crash_text.specs.Page.{page_of};
 use crate::text::{Page, if_asked};
 use crate::threads::frames_in;
 use crash::{AddressFacts, CrashFrame};
-use crash_lines::Part::{Hex, HexIf, Key, Version, Words};
+use crash_lines::Part::{Hex, HexIf, Key, Text, Words};
 use crash_lines::{Added, push_count, push_if_missing, push_row};
 use crash_symbols::{SymbolState, Symbolized};
 use minidump::Error;
@@ -75,9 +75,9 @@ fn push_at(out: &mut String, page: Page<'_, '_, '_, '_>, marks: &[bool], index: 
     match page.crash.modules.loaded.get(index) {
         Some(module) if is_asked || is_named => push_row(out, &[
             Words("    "), Hex(module.base), HexIf("-", if_asked(is_asked, module.end)), Words(" "),
-            Words(module.path.as_str()), Version(&module.version),
-            Key(", debug ", module.debug_file.as_ref(), &module.debug_id),
-            Key(", code ", Some(&module.file), &module.code_id), Words(symbols),
+            Words(module.path.as_str()), Text(", version ", &module.version, ""),
+            Text(", debug ", &module.debug_file, ""), Text("/", &module.debug_id, ""),
+            Key(", code ", module.file.as_str(), &module.code_id), Words(symbols),
         ]),
         _ => Ok(()),
     }

@@ -5,14 +5,12 @@ ghost use Rattle.minidump.specs.Below.Contexts.Context.{map_ok};
 ghost use Rattle.minidump.specs.Below.Format.Answer.{Gives};
 ghost use Rattle.crash.specs.Crash.{crash_in, crash_of};
 ghost use Rattle.crash_symbols.specs.Shown.{symbolized_of};
-ghost use Rattle.crash_lines.specs.Escape.{is_printed};
-ghost use Rattle.crash_lines.specs.Lines.{Adds};
+ghost use Rattle.crash_lines.specs.Lines.{Adds, is_printed};
 ghost use Rattle.crash_text.specs.Page.{if_asked};
 ghost use Rattle.crash_text.specs.Text.{signature_lines, text_of};
 
-use crate::damage::push_damage;
 use crate::limits::TextLimits;
-use crate::lists::push_lists;
+use crate::lists::{push_damage, push_lists};
 use crate::modules::push_modules;
 use crate::threads::{push_crashed, push_others};
 use crash::Crash;

@@ -1,22 +1,38 @@
+//! The lines of threads, of their frames, and of the inlined calls in the functions of these.
 ghost use Rattle.std.specs.Prelude.{◌≡◌, [], ◌∷◌, ◌++◌, IfOk, OnOk, if◌then◌else◌, map};
 ghost use Rattle.std.specs.Option.{option_map};
 ghost use Rattle.crash_process.specs.Process.{system_of};
 ghost use Rattle.crash_threads.specs.Threads.{thread_value};
+ghost use Rattle.crash_process.specs.Modules.{loaded_of};
+ghost use Rattle.crash_symbols.specs.NameParts.{function_of, source_of};
+ghost use Rattle.minidump_bytes.specs.LinuxOsStr.{text_of};
+ghost use Rattle.crash_symbols.specs.Shown.{shown_frame_of, shown_of};
 ghost use Rattle.crash_lines.specs.Lines.{Adds};
 ghost use Rattle.crash_text.specs.Page.{page_of};
-ghost use Rattle.crash_text.specs.Threads.{crashed_lines, each_other, frames_at, frames_in};
-ghost use Rattle.crash_text.specs.Threads.{heading_lines, is_index, is_range, no_walk_words};
-ghost use Rattle.crash_text.specs.Threads.{other_lines, own_lines, range_row, shows_all};
-ghost use Rattle.crash_text.specs.Threads.{stack_lines, thread_lines, unaccepted_row};
+ghost use Rattle.crash_text.specs.Threads.{call_entries, crashed_lines, each_entry, each_other};
+ghost use Rattle.crash_text.specs.Threads.{end_text, entries_in, entry_line, entry_of, found_text};
+ghost use Rattle.crash_text.specs.Threads.{frames_at, frames_in, heading_lines, is_index, is_range};
+ghost use Rattle.crash_text.specs.Threads.{no_walk_words, other_lines, own_words, printed_frames};
+ghost use Rattle.crash_text.specs.Threads.{range_row, rest_lines, shows_all, source_text};
+ghost use Rattle.crash_text.specs.Threads.{stack_lines, thread_lines, context_lines, walk_lines};
+ghost use Rattle.crash_lines.specs.Parts.{part_text};
 
-use crate::frames::{printed_frames, push_walk};
 use crate::limits::TextLimits;
-use crate::text::Page;
-use crash::{ContextProblem, CrashFrame, CrashSystem, CrashThread, StackRange, unaccepted_size};
-use crash_lines::Part::{DecimalIf, Hex, Id, If, Short, Text, Words};
-use crash_lines::{Added, push_if_missing, push_row, push_table, push_text_line};
-use crash_symbols::shown_walk;
+use crate::text::{Page, if_asked};
+use crash::{
+    ContextProblem, CrashFrame, CrashModule, CrashSystem, CrashThread, StackRange, unaccepted_size,
+};
+use crash_lines::Part::{
+    Count, Decimal, DecimalIf, Hex, HexIf, HexUnless, Id, If, Lossy, Place, Short, Text, Words,
+};
+use crash_lines::{Added, Part, push_if_missing, push_row, push_table};
+use crash_symbols::{
+    FrameFunction, InlinedCall, ShownFrame, ShownWalk, SourceLine, first_of, shown_walk,
+};
+use minidump_bytes::LinuxOsStr;
+use stack_walk::{FrameTrust, WalkEnd};
 use std::alloc::{AllocError, Global};
+use symbol_walk::SymbolWalkEnd;
 
 // Appends the lines of the thread that crashed, or that there are no threads.
 pub(crate) fn push_crashed(out: &mut String, page: Page<'_, '_, '_, '_>) -> Added
@@ -93,12 +109,16 @@ fn push_thread(
     push_stack(out, is_whole, thread)?;
     match shown_walk(*out.allocator(), thread, number, page.symbols)? {
         Some(walk) => {
-            push_own(out, thread.context_problem)?;
+            push_context(
+                out,
+                own_words(thread.context_problem),
+                thread.context_problem,
+            )?;
             push_walk(out, page, is_whole, &walk)
         }
         None => {
             let why = no_walk_words(&page.crash.process.system, thread.context_problem);
-            push_unaccepted(out, why, thread.context_problem)
+            push_context(out, why, thread.context_problem)
         }
     }
 }
@@ -120,8 +140,9 @@ fn push_heading(out: &mut String, thread: &CrashThread) -> Added
     ])
 }
 
-// Appends the line of the stack of a thread as its entry names it, if it does, and that of the
-// stack's memory, if it isn't the same: neither unless all frames of the thread are asked for.
+// Appends the line of the stack of a thread as its entry names it, if it does, which also says if the
+// dump has no memory where it begins, and the line of the stack's memory, if it isn't the same: neither
+// unless all frames of the thread are asked for.
 fn push_stack(out: &mut String, is_whole: bool, thread: &CrashThread) -> Added
     ensures { Adds out.old out.new (if is_whole
         then stack_lines thread.now.stack thread.now.stack_memory else []) result }
@@ -130,11 +151,11 @@ fn push_stack(out: &mut String, is_whole: bool, thread: &CrashThread) -> Added
         return Ok(());
     }
     if let Some(range) = &thread.stack {
-        push_range(out, "    stack ", range)?;
+        push_range(out, "    stack ", range, thread.stack_memory.is_none())?;
     }
     match &thread.stack_memory {
         Some(range) if is_range(range, &thread.stack) => Ok(()),
-        Some(range) => push_range(out, "    stack memory ", range),
+        Some(range) => push_range(out, "    stack memory ", range, false),
         None => Ok(()),
     }
 }
@@ -146,29 +167,27 @@ fn is_range(range: &StackRange, other: &Option<StackRange>) -> bool
     matches!(other, Some(other) if other.base == range.base && other.size == range.size)
 }
 
-// Appends the line of a range of addresses after words.
+// Appends the line of a range of addresses after words, and that no memory is where it begins, if so.
 #[rattlefmt::skip]
 #[tactic(auto, unfolding(crate::specs::Threads::range_row))]
-fn push_range(out: &mut String, what: &str, range: &StackRange) -> Added
-    ensures { Adds out.old out.new (range_row what.now range.now ∷ []) result }
+fn push_range(out: &mut String, what: &str, range: &StackRange, is_absent: bool) -> Added
+    ensures { Adds out.old out.new (range_row what.now range.now is_absent ∷ []) result }
 {
     push_row(out, &[
         Words(what), Hex(range.base), Words(", "), Hex(range.size), Words(" bytes"),
+        If(is_absent, ", no memory where it begins"),
     ])
 }
 
-// Appends why the own context of a thread isn't used, if its frames are those of the exception's.
-fn push_own(out: &mut String, problem: Option<ContextProblem>) -> Added
-    ensures { Adds out.old out.new (own_lines problem) result }
+// Returns the words for why the own context of a thread isn't used, if its frames are those of the
+// exception's.
+fn own_words(problem: Option<ContextProblem>) -> &'static str
+    ensures { result.now ≡ own_words problem }
 {
     match problem {
-        Some(ContextProblem::Outside) => {
-            push_text_line(out, "    its own context is outside the file")
-        }
-        Some(ContextProblem::NotAccepted { .. }) => {
-            push_unaccepted(out, "    its own context can't be read", problem)
-        }
-        Some(ContextProblem::NoSystem) | None => Ok(()),
+        Some(ContextProblem::Outside) => "    its own context is outside the file",
+        Some(ContextProblem::NotAccepted { .. }) => "    its own context can't be read",
+        Some(ContextProblem::NoSystem) | None => "",
     }
 }
 
@@ -183,13 +202,13 @@ fn no_walk_words(system: &Option<CrashSystem>, problem: Option<ContextProblem>) 
     }
 }
 
-// Appends words, and how many bytes there are of a context that isn't accepted.
-#[tactic(auto, unfolding(crate::specs::Threads::unaccepted_row))]
-fn push_unaccepted(out: &mut String, words: &str, problem: Option<ContextProblem>) -> Added
-    ensures { Adds out.old out.new (unaccepted_row words.now problem ∷ []) result }
+// Appends words on a context, and how many bytes there are of it if it isn't accepted.
+#[tactic(auto, unfolding(crate::specs::Threads::context_lines))]
+fn push_context(out: &mut String, words: &str, problem: Option<ContextProblem>) -> Added
+    ensures { Adds out.old out.new (context_lines words.now problem) result }
 {
     let size = unaccepted_size(problem);
-    push_row(out, &[Words(words), DecimalIf(", ", size, " bytes")])
+    push_table(out, &[&[Words(words), DecimalIf(", ", size, " bytes")]])
 }
 
 // Returns the frames of all threads that are printed.
@@ -228,4 +247,216 @@ fn push_frames_at(
         }
     }
     Ok(())
+}
+
+// Appends what is found in the stack of a thread, and why there is no more if all of its frames are
+// asked for.
+fn push_walk(
+    out: &mut String,
+    page: Page<'_, '_, '_, '_>,
+    is_whole: bool,
+    walk: &ShownWalk<'_, '_>,
+) -> Added
+    ensures { Adds out.old out.new
+        (walk_lines (page_of page.entry) is_whole (shown_of walk.now)) result }
+{
+    let alloc = *out.allocator();
+    let frames = printed_frames(alloc, page.limits, is_whole, walk)?;
+    let entries = entries_in(alloc, frames.as_slice())?;
+    let modules = page.crash.modules.loaded.as_slice();
+    push_entries(out, page.limits.lists, modules, entries.as_slice())?;
+    if is_whole {
+        push_rest(out, page.limits, walk)
+    } else {
+        Ok(())
+    }
+}
+
+// Returns the frames of a walk that are printed.
+#[tactic(auto, using(crash_lines::proofs::LineLemmas::values))]
+fn printed_frames<'s, 'l>(
+    alloc: Global,
+    limits: &TextLimits,
+    is_whole: bool,
+    walk: &ShownWalk<'s, 'l>,
+) -> Result<Vec<ShownFrame<'s, 'l>>, AllocError>
+    ensures { IfOk result (λ frames. map shown_frame_of frames.items
+        ≡ printed_frames limits.now is_whole (shown_of walk.now)) }
+{
+    if is_whole {
+        walk.first_frames(alloc, limits.frames)
+    } else {
+        Vec::from_slice(alloc, first_of(walk.frames.as_slice(), 1))
+    }
+}
+
+// ---- frames and the inlined calls there
+
+// A frame, or an inlined call there.
+#[derive(Clone, Copy)]
+struct FrameEntry<'s, 'l> {
+    frame: ShownFrame<'s, 'l>,
+    call: Option<InlinedCall<'l>>,
+}
+
+// Returns frames, before each the inlined calls there.
+#[tactic(auto, unfolding(crate::specs::Threads::entries_in))]
+fn entries_in<'s, 'l>(
+    alloc: Global,
+    frames: &[ShownFrame<'s, 'l>],
+) -> Result<Vec<FrameEntry<'s, 'l>>, AllocError>
+    ensures { IfOk result
+        (λ entries. map entry_of entries.items ≡ entries_in (map shown_frame_of frames.now)) }
+{
+    let mut entries = Vec::new(alloc);
+    for frame in frames {
+        push_calls(&mut entries, *frame)?;
+        entries.push(FrameEntry {
+            frame: *frame,
+            call: None,
+        })?;
+    }
+    Ok(entries)
+}
+
+// Appends the inlined calls at a frame to a list.
+fn push_calls<'s, 'l>(entries: &mut Vec<FrameEntry<'s, 'l>>, frame: ShownFrame<'s, 'l>) -> Added
+    ensures { OnOk result (map entry_of entries.new.items
+        ≡ map entry_of entries.old.items ++ call_entries (shown_frame_of frame.entry)) }
+{
+    for call in frame.inlines {
+        entries.push(FrameEntry {
+            frame,
+            call: Some(*call),
+        })?;
+    }
+    Ok(())
+}
+
+// Appends the lines of frames and calls, each with its number.
+fn push_entries<'x>(
+    out: &mut String,
+    is_asked: bool,
+    modules: &'x [CrashModule],
+    entries: &[FrameEntry<'_, 'x>],
+) -> Added
+    ensures { Adds out.old out.new
+        (each_entry is_asked (map loaded_of modules.now) (map entry_of entries.now)) result }
+{
+    for (number, entry) in entries.iter().enumerate() {
+        push_entry(out, is_asked, modules, number, entry)?;
+    }
+    Ok(())
+}
+
+// Appends the line of a frame or a call: of a frame with its other addresses, if they are asked for.
+#[rattlefmt::skip]
+#[tactic(auto, unfolding(crate::specs::Threads::call_line, crate::specs::Threads::frame_line))]
+fn push_entry<'x>(
+    out: &mut String,
+    is_asked: bool,
+    modules: &'x [CrashModule],
+    number: usize,
+    entry: &FrameEntry<'_, 'x>,
+) -> Added
+    ensures { Adds out.old out.new (entry_line is_asked (map loaded_of modules.now) number
+        (entry_of entry.now).0 (entry_of entry.now).1 ∷ []) result }
+{
+    let (shown, frame) = (entry.frame, entry.frame.frame);
+    let address = frame.address.unwrap_or(frame.instruction);
+    match entry.call {
+        Some(call) => {
+            let place = source_part(call.source);
+            push_row(out, &[
+                Words("    #"), Decimal(number as u64), Words(" "), Hex(address),
+                Lossy(" ", call.function), place, Place(modules, " in no module", frame.module),
+                Words(", inline"),
+            ])
+        }
+        None => {
+            let name = name_of(shown.function);
+            let offset = offset_of(shown.function);
+            let source = source_part(shown.line);
+            let found = found_text(frame.trust);
+            let instruction = if_asked(is_asked, Some(frame.instruction));
+            let stack = if_asked(is_asked, Some(frame.stack_pointer));
+            let base = if_asked(is_asked, frame.frame_pointer);
+            push_row(out, &[
+                Words("    #"), Decimal(number as u64), Words(" "), Hex(address),
+                Lossy(" ", name), HexIf(" + ", offset), source,
+                Place(modules, " in no module", frame.module), Words(found),
+                HexUnless(address, ", instruction ", instruction),
+                HexIf(", stack pointer ", stack), HexIf(", frame pointer ", base),
+            ])
+        }
+    }
+}
+
+// Returns the name of a function.
+fn name_of<'x>(function: Option<FrameFunction<'x>>) -> Option<LinuxOsStr<'x>>
+    ensures { option_map text_of result
+        ≡ option_map (λ f. f.name) (option_map function_of function.entry) }
+{
+    function.map(|function| function.name)
+}
+
+// Returns how far a frame is behind the first of its function.
+fn offset_of(function: Option<FrameFunction<'_>>) -> Option<u64>
+    ensures { result ≡ option_map (λ f. f.offset) (option_map function_of function.entry) }
+{
+    function.map(|function| function.offset)
+}
+
+// Returns the part that writes a source line.
+fn source_part<'x>(source: Option<SourceLine<'x>>) -> Part<'x>
+    ensures { part_text result ≡ source_text (option_map source_of source.entry) }
+{
+    source.map_or(Words(""), |source| Part::Line(source.file, source.line))
+}
+
+// Returns the words for how a frame was found.
+fn found_text(trust: FrameTrust) -> &'static str
+    ensures { result.now ≡ found_text trust }
+{
+    match trust {
+        FrameTrust::Context => ", context",
+        FrameTrust::Cfi => ", call frame information",
+        FrameTrust::FramePointer => ", frame pointer",
+        FrameTrust::Scan => ", scan",
+        FrameTrust::Link => ", link register",
+    }
+}
+
+// ---- after the frames
+
+// Appends how many frames are not printed, why the walk ends, and how many candidates follow.
+#[rattlefmt::skip]
+#[tactic(auto, unfolding(crate::specs::Threads::rest_lines))]
+fn push_rest(out: &mut String, limits: &TextLimits, walk: &ShownWalk<'_, '_>) -> Added
+    ensures { Adds out.old out.new (rest_lines limits.now (shown_of walk.now)) result }
+{
+    let count = walk.frames.len() + walk.candidates.len();
+    let hidden = count.saturating_sub(limits.frames);
+    push_table(out, &[
+        &[Count("    and ", hidden, " more")],
+        &[Words("    end: "), Words(end_text(walk.end))],
+        &[Count("    candidates: ", walk.candidates.len(), "")],
+    ])
+}
+
+// Returns why a walk ends, in words.
+fn end_text(end: SymbolWalkEnd) -> &'static str
+    ensures { result.now ≡ end_text end }
+{
+    match end {
+        SymbolWalkEnd::Walk(WalkEnd::NoMemory) => "no memory of its stack",
+        SymbolWalkEnd::Walk(WalkEnd::UnknownWidth) => "unknown width of an address",
+        SymbolWalkEnd::Walk(WalkEnd::NoFramePointer) => "no frame pointer",
+        SymbolWalkEnd::Walk(WalkEnd::ZeroFramePointer) => "frame pointer of 0",
+        SymbolWalkEnd::Walk(WalkEnd::BelowStackPointer) => "frame pointer below the stack pointer",
+        SymbolWalkEnd::Walk(WalkEnd::NoRecord) => "no frame record at the frame pointer",
+        SymbolWalkEnd::Walk(WalkEnd::NoCode) => "return address in no module",
+        SymbolWalkEnd::NoReturnRule => "no rule for the return address",
+        SymbolWalkEnd::ZeroReturnAddress => "return address of 0",
+    }
 }

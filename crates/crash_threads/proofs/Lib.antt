@@ -1,4 +1,3 @@
 -- The lemmas of this crate.
-pub mod LastLaw
 pub mod Lasts
 pub mod PointLemmas

@@ -1,8 +1,9 @@
 -- What is known of an address: where it lies among the modules, the stacks and the regions.
 use Rattle.std.specs.Prelude.{ℕ, ◌-◌, ◌^◌, ◌==◌, ◌&&◌, ◌||◌, nat_le, nat_lt, Bool, true, false, List, []}
-use Rattle.std.specs.Prelude.{Option, Some, None, is_some, unwrap_or, if◌then◌else◌}
+use Rattle.std.specs.Prelude.{Option, Some, None, is_none, is_some, not, unwrap_or, if◌then◌else◌}
 use Rattle.std.specs.Option.{option_map, option_map_or}
 use Rattle.std.specs.Result.{result_ok}
+use Rattle.minidump.specs.declared.format.MINIDUMP_MEMORY_DESCRIPTOR.{MINIDUMP_MEMORY_DESCRIPTOR}
 use Rattle.minidump.specs.declared.system_info.Cpu.{Cpu}
 use Rattle.minidump.specs.declared.system_info.Cpu.TheVariants.{X86_64}
 use Rattle.minidump.specs.Below.Format.Flags.{has_flag}
@@ -12,7 +13,7 @@ use Rattle.minidump.specs.Below.MemoryLists.UnifiedInfo.{range_of_info_region, r
 use Rattle.minidump.specs.Below.MemoryLists.UnifiedInfo.{region_is_readable, region_is_writable}
 use Rattle.minidump.specs.Below.Modules.UnloadedModule.{UnloadedValue, range_of_unloaded}
 use Rattle.minidump.specs.Below.System.System.{System}
-use Rattle.minidump.specs.Thread.{Thread}
+use Rattle.minidump.specs.Thread.{Thread, stack_of}
 use Rattle.stack_walk.specs.Lookups.{is_code, module_place}
 use Rattle.crash_threads.specs.declared.addresses.AddressFacts.{AddressFacts}
 use Rattle.crash_threads.specs.declared.addresses.AddressMemory.{AddressMemory}
@@ -22,7 +23,6 @@ use Rattle.crash_threads.specs.declared.stacks.StackRange.{StackRange}
 use Rattle.crash_streams.specs.Contents.{ContentsValue}
 use Rattle.crash_threads.specs.Contexts.{system_of}
 use Rattle.crash_threads.specs.Last.{last_index}
-use Rattle.crash_threads.specs.Stacks.{named_stack}
 
 -- the address, where it is in the 64 KiB from 0 on, which Windows doesn't map, nor Linux by default but on
 -- ARM
@@ -44,6 +44,21 @@ abbrev pub unloaded_at : List UnloadedValue → ℕ → Option ℕ
 unloaded_at modules address = last_index (has_address range_of_unloaded address) modules
 
 -- ---- stacks
+
+-- where a stack is, as an entry names it: nowhere if it is empty
+abbrev pub named_stack : MINIDUMP_MEMORY_DESCRIPTOR → Option StackRange
+named_stack stack = if stack.memory.data_size == 0 then None
+    else Some (record { base = stack.start_of_memory_range; size = stack.memory.data_size })
+
+-- the memory of a stack: the thread's own, else the kept region in which it begins
+abbrev pub stack_memory : ContentsValue → Thread → Option StackRange
+stack_memory c t = option_map (λ r. record { base = r.base_address; size = r.size })
+    (stack_of (Some c.space.memory) t)
+
+-- a thread names bytes of a stack that are not in the file
+abbrev pub is_outside : Thread → Bool
+is_outside t = not (t.raw.stack.memory.rva == 0)
+    && (not (t.raw.stack.memory.data_size == 0) && is_none t.stack)
 
 -- a stack, as a thread names it, contains an address
 abbrev pub has_stack : ℕ → Option StackRange → Bool

@@ -85,16 +85,14 @@ abbrev pub is_instruction : System → Exception → ℕ → Bool
 is_instruction s e address = option_map_or (λ f. instruction_pointer_in f.raw == address)
     (any_context (Some s) e.order e.context) false
 
--- an address says only where the thread stood: it is the instruction pointer of an exception's own context, and
--- code may be there. Where none can be, as at 0, the thread jumped to it, and that was the access
-abbrev is_where_it_stood : ContentsValue → System → Exception → ℕ → Bool
-is_where_it_stood c s e address = is_instruction s e address && has_code c address
-
--- the record of an exception on a system has no address of a crash: none at all, or one that says only that
+-- the record of an exception on a system has no address of a crash: none at all, or one that says only where the
+-- thread stood, as the instruction pointer of the exception's own context, at which code may be. Where none can be,
+-- as at 0, the thread jumped to it, and that was the access
 abbrev has_no_address : ContentsValue → System → Exception → Bool
-has_no_address c s e = lacks_address s.os s.cpu e.raw.exception_record
-    || (may_be_instruction s.os e.raw.exception_record
-    && is_where_it_stood c s e (crash_address s.os s.cpu e.raw.exception_record))
+has_no_address c s e =
+    let address = crash_address s.os s.cpu e.raw.exception_record in
+    lacks_address s.os s.cpu e.raw.exception_record || (may_be_instruction s.os e.raw.exception_record
+    && (is_instruction s e address && has_code c address))
 
 -- the address of a crash where the system is known, unless a process sent the signal, or the record has none
 abbrev pub address_unless : ContentsValue → Option Sender → Option System → Exception → Option ℕ

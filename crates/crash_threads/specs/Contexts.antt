@@ -1,8 +1,7 @@
 -- The registers of a thread, by the context of the exception or its own, whole or cut after its
 -- general registers, or why there are none.
-use Rattle.std.specs.Prelude.{ℕ, ◌-◌, ◌++◌, ◌==◌, ◌&&◌, Bool, false, List, [], is_none, is_some, length, map}
-use Rattle.std.specs.Prelude.{nat_le, nat_lt, replicate, Option, Some, None}
-use Rattle.std.specs.Prelude.{if◌then◌else◌}
+use Rattle.std.specs.Prelude.{ℕ, ◌-◌, ◌++◌, ◌==◌, ◌&&◌, Bool, false, List, [], is_none, is_some, length, map, nat_le}
+use Rattle.std.specs.Prelude.{nat_lt, replicate, Option, Some, None, if◌then◌else◌}
 use Rattle.std.specs.Option.{option_and_then, option_map, option_or}
 use Rattle.std.specs.Result.{result_ok}
 use Rattle.minidump.specs.declared.Endian.{Endian}
@@ -60,12 +59,6 @@ old_on cpu.Arm64 order bytes = option_and_then (λ c.
     (record_at context_arm64_old order 0 bytes)
 old_on other order bytes = None
 
--- the context that bytes hold whole: in the layout of the processor, or in another one
-abbrev whole_in : System → Endian → List ℕ → Option MinidumpRawContext
-whole_in s order bytes =
-    option_or (accepted_context s.raw.processor_architecture order (Some bytes))
-    (old_on s.cpu order bytes)
-
 -- ---- contexts that are cut after the general registers
 
 -- how many bytes of a processor's context end with its general registers, and how many it has. The
@@ -86,15 +79,13 @@ has_general other = false
 abbrev pub padded : List ℕ → ℕ → List ℕ
 padded bytes whole = bytes ++ replicate (whole - length bytes) 0
 
--- a context of which there are so many bytes, if these have all general registers
-abbrev short_of : ℕ → ℕ → MinidumpRawContext → Option FoundContext
-short_of size whole raw = if has_general raw
-    then Some (record { raw = raw; short = Some (record { size = size; whole = whole }) }) else None
-
--- the context of which bytes are the front, by how many of these there are at least and at most
+-- the context of which bytes are the front, if they have all general registers, by how many bytes there are at
+-- least and at most
 abbrev short_by : System → Endian → List ℕ → ℕ × ℕ → Option FoundContext
-short_by s order bytes l = if nat_le l.0 (length bytes) && nat_lt (length bytes) l.1
-    then option_and_then (short_of (length bytes) l.1)
+short_by s order bytes l =
+    let short : ShortContext = record { size = length bytes; whole = l.1 } in
+    if nat_le l.0 (length bytes) && nat_lt (length bytes) l.1 then option_and_then
+    (λ raw. if has_general raw then Some (record { raw = raw; short = Some short }) else None)
     (accepted_context s.raw.processor_architecture order (Some (padded bytes l.1))) else None
 
 -- the same on the processor of a system
@@ -103,10 +94,12 @@ short_context s order bytes = option_and_then (short_by s order bytes) (lengths 
 
 -- ---- the context of a thread
 
--- the context that bytes hold: whole, or cut after its general registers
+-- the context that bytes hold: whole, in the layout of the processor or in another one, or cut after its general
+-- registers
 abbrev pub context_on : System → Endian → List ℕ → Option FoundContext
 context_on s order bytes = option_or (option_map (λ raw. record { raw = raw; short = None })
-    (whole_in s order bytes)) (short_context s order bytes)
+    (option_or (accepted_context s.raw.processor_architecture order (Some bytes)) (old_on s.cpu order bytes)))
+    (short_context s order bytes)
 
 -- the same, where the system is known and the bytes are in the file
 abbrev pub any_context : Option System → Endian → Option (List ℕ) → Option FoundContext
@@ -136,18 +129,14 @@ abbrev first_of : Option FoundContext → Option FoundContext
     → Option (ContextOrigin × FoundContext)
 first_of exception own = option_or (of_origin OfException exception) (of_origin OfThread own)
 
--- the first of them that is whole, else the first
-abbrev first_found : Option FoundContext → Option FoundContext
-    → Option (ContextOrigin × FoundContext)
-first_found exception own = option_or (first_of (whole_only exception) (whole_only own))
-    (first_of exception own)
-
 -- the context by which the registers of a thread of the list are known, and whose it is, by the
--- exception that counts
+-- exception that counts: the first of both that is whole, else the first
 abbrev pub found_in : ContentsValue → Option Exception → Thread
     → Option (ContextOrigin × FoundContext)
-found_in c e t = first_found (on_thread c e t.raw.thread_id)
-    (any_context (system_of c) t.order t.context)
+found_in c e t =
+    let exception = on_thread c e t.raw.thread_id in
+    let own = any_context (system_of c) t.order t.context in
+    option_or (first_of (whole_only exception) (whole_only own)) (first_of exception own)
 
 -- the values of the registers of a context by their names, in the order of the processor
 abbrev pub register_values : MinidumpRawContext → List (List ℕ × ℕ)

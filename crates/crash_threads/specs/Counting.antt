@@ -1,8 +1,7 @@
 -- Which exception of a dump counts: the one that its crash is told of.
-use Rattle.std.specs.Prelude.{ℕ, ◌==◌, Bool, false, not, true, List, Option, Result, Ok, Err}
-use Rattle.std.specs.Prelude.{slice_get}
+use Rattle.std.specs.Prelude.{ℕ, ◌==◌, Bool, false, not, List, Option, Result, Ok, Err, slice_get}
 use Rattle.std.specs.Option.{option_and_then, option_or}
-use Rattle.std.specs.Result.{result_ok}
+use Rattle.std.specs.Result.{is_ok, result_ok}
 use Rattle.minidump.specs.declared.Error.{Error}
 use Rattle.minidump.specs.Exception.{Exception}
 use Rattle.crash_streams.specs.Contents.{ContentsValue}
@@ -13,15 +12,10 @@ abbrev pub has_code : Result Exception Error → Bool
 has_code (Ok e) = not (e.raw.exception_record.exception_code == 0)
 has_code (Err _) = false
 
--- an exception can be read
-abbrev pub is_read : Result Exception Error → Bool
-is_read (Ok _) = true
-is_read (Err _) = false
-
 -- the index of the exception that counts: the last whose code isn't 0, else the last that can be
 -- read
 abbrev pub counting : List (Result Exception Error) → Option ℕ
-counting exceptions = option_or (last_index has_code exceptions) (last_index is_read exceptions)
+counting exceptions = option_or (last_index has_code exceptions) (last_index is_ok exceptions)
 
 -- the exception of an index, where it can be read
 abbrev pub counted : {X : Type 0} → List (Result X Error) → Option ℕ → Option X

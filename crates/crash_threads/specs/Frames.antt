@@ -18,8 +18,7 @@ use Rattle.stack_walk.specs.Addresses.{code_bits}
 use Rattle.stack_walk.specs.Frames.{StackValue, stack_of, stack_pointer_in}
 use Rattle.stack_walk.specs.Lookups.{lookup_address, module_place}
 use Rattle.stack_walk.specs.Threads.{ProcessValue, stack_in, thread_stack}
-use Rattle.stack_walk.specs.Walk as stack
-use Rattle.stack_walk.specs.Walk.{WalkValue}
+use Rattle.stack_walk.specs.Walk.{walk_in}
 use Rattle.crash_threads.specs.declared.contexts.FoundContext.{FoundContext}
 use Rattle.crash_threads.specs.declared.frames.CrashFrame.{CrashFrame}
 use Rattle.crash_threads.specs.declared.frames.CrashWalk.{CrashWalk}
@@ -54,14 +53,6 @@ frame_in s f = record {
   «module» = option_and_then (module_place s.modules) (lookup_address s.cpu f);
 }
 
--- a walk with the module of each frame
-abbrev pub walk_by : StackValue → WalkValue → CrashWalkValue
-walk_by s w = record {
-  frames = map (frame_in s) w.frames;
-  candidates = map (frame_in s) w.candidates;
-  end = w.end;
-}
-
 -- ---- walks
 
 -- how many of the low bits of a return address are its address, by the system and the modules: all 64 where the
@@ -89,31 +80,29 @@ walked_of w = (stack_of w.0, w.1)
 abbrev pub context_of : FoundContext → MinidumpContext
 context_of f = record { raw = f.raw; valid = All }
 
--- the stack of a thread of the list by a context, and that context
-abbrev pub walked_by : ProcessValue → Thread → MinidumpContext → StackValue × MinidumpContext
-walked_by p t context =
-    (stack_in p (thread_stack p.memory t (stack_pointer_in context.raw)), context)
-
 -- the stack and the context by which a thread of the list is walked, by the contents and the
 -- exception that counts: none without a context
 abbrev pub thread_walked : ContentsValue → ℕ → Option Exception → Thread
     → Option (StackValue × MinidumpContext)
-thread_walked c bits e t = option_and_then
-    (λ p. option_map (λ f. walked_by p t (context_of f.1)) (found_in c e t)) (process_in c bits e)
+thread_walked c bits e t = option_and_then (λ p. option_map
+    (λ f. (stack_in p (thread_stack p.memory t (stack_pointer_in f.1.raw)), context_of f.1))
+    (found_in c e t)) (process_in c bits e)
 
 -- the kept region of the memory that contains an address
 abbrev pub memory_at : UnifiedRegions → ℕ → Option UnifiedRegion
 memory_at memory address = looked_up range_of_region (unified_regions memory) address
 
--- the memory at the stack pointer of a context, as its stack, and that context
-abbrev pub walked_at : ProcessValue → MinidumpContext → StackValue × MinidumpContext
-walked_at p context = (stack_in p (memory_at p.memory (stack_pointer_in context.raw)), context)
-
--- the stack and the context by which the thread of an exception is walked, which the list lacks
+-- the stack and the context by which the thread of an exception is walked, which the list lacks: the
+-- memory at the stack pointer of the exception's context is its stack
 abbrev pub exception_walked : ContentsValue → ℕ → Exception → Option (StackValue × MinidumpContext)
-exception_walked c bits e = option_and_then
-    (λ p. option_map (λ f. walked_at p (context_of f)) (context_at c e)) (process_in c bits (Some e))
+exception_walked c bits e = option_and_then (λ p. option_map
+    (λ f. (stack_in p (memory_at p.memory (stack_pointer_in f.raw)), context_of f)) (context_at c e))
+    (process_in c bits (Some e))
 
--- what is found in a stack by a context, with at most so many candidates
+-- what is found in a stack by a context, with at most so many candidates, and with the module of each frame
 abbrev pub walk_from : ℕ → StackValue × MinidumpContext → CrashWalkValue
-walk_from scan w = walk_by w.0 (stack.walk_in w.0 w.1 scan)
+walk_from scan w = let walk = walk_in w.0 w.1 scan in record {
+  frames = map (frame_in w.0) walk.frames;
+  candidates = map (frame_in w.0) walk.candidates;
+  end = walk.end;
+}

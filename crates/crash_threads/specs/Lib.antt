@@ -2,7 +2,6 @@
 pub mod Last
 pub mod Contexts
 pub mod Counting
-pub mod Stacks
 pub mod Addresses
 pub mod Cause
 pub mod Frames

@@ -1,11 +1,9 @@
 -- Where a thread stands: what is known of its instruction pointer and of its registers, the code there,
 -- the words from its stack pointer up, and the flags and the segments of its processor.
-use Rattle.std.specs.Prelude.{ℕ, ◌+◌, ◌-◌, ◌*◌, ◌^◌, List, [], ◌∷◌, codes, drop, map}
-use Rattle.std.specs.Prelude.{Bool, bytes_eq, filter, not, take}
-use Rattle.std.specs.Prelude.{Option, None, if◌then◌else◌}
+use Rattle.std.specs.Prelude.{ℕ, ◌+◌, ◌-◌, ◌*◌, ◌^◌, List, [], ◌∷◌, codes, drop, map, Bool, bytes_eq, filter, not}
+use Rattle.std.specs.Prelude.{take, Option, None, if◌then◌else◌}
 use Rattle.std.specs.List.{filter_map, range_with_len}
 use Rattle.std.specs.Option.{option_and_then, option_map, option_map_or}
-use Rattle.minidump.specs.declared.MinidumpContext.{MinidumpContext}
 use Rattle.minidump.specs.declared.MinidumpRawContext.{MinidumpRawContext}
 use Rattle.minidump.specs.declared.MinidumpRawContext.TheVariants.{Amd64, Arm, Arm64, OldArm64, X86}
 use Rattle.minidump.specs.Below.Format.Flags.{has_flag}
@@ -133,18 +131,13 @@ set_flags (OldArm64 c) = names_in arm64_flags c.cpsr
 
 -- ---- all of it
 
--- the point of a stack and a context
-abbrev pub point_by : ContentsValue → StackValue → MinidumpContext → PointValue
-point_by c s context = record {
-  instruction = facts_of c (instruction_pointer_in context.raw);
-  registers = register_facts c context.raw;
-  code = code_at c.space.memory (instruction_pointer_in context.raw);
-  words = words_from s (stack_pointer_in context.raw) 16;
-  flags = flags_of context.raw;
-  set_flags = set_flags context.raw;
-}
-
--- that of the thread of an index, which has a walk
+-- the point of the thread of an index, which has a walk, by its stack and context
 abbrev pub point_in : ContentsValue → ℕ → Option ℕ → Option PointValue
-point_in c bits thread =
-    option_map (λ w. point_by c w.0 w.1) (option_and_then (walked_at c bits) thread)
+point_in c bits thread = option_map (λ w. let raw = w.1.raw in record {
+  instruction = facts_of c (instruction_pointer_in raw);
+  registers = register_facts c raw;
+  code = code_at c.space.memory (instruction_pointer_in raw);
+  words = words_from w.0 (stack_pointer_in raw) 16;
+  flags = flags_of raw;
+  set_flags = set_flags raw;
+}) (option_and_then (walked_at c bits) thread)

@@ -1,7 +1,6 @@
 -- The threads of a process, and which of them crashed.
-use Rattle.std.specs.Prelude.{ℕ, ◌==◌, ◌++◌, Bool, false, true, List, [], ◌∷◌, length, map}
-use Rattle.std.specs.Prelude.{is_some, Option, Some, None, Result, Ok, Err}
-use Rattle.std.specs.Prelude.{if◌then◌else◌, slice_get, string_bytes, unwrap_or}
+use Rattle.std.specs.Prelude.{ℕ, ◌==◌, ◌++◌, Bool, false, true, List, [], ◌∷◌, length, map, is_some, Option, Some}
+use Rattle.std.specs.Prelude.{None, Result, Ok, Err, if◌then◌else◌, slice_get, string_bytes, unwrap_or}
 use Rattle.std.specs.Option.{option_and_then, option_map, option_map_or}
 use Rattle.std.specs.Result.{result_ok}
 use Rattle.minidump.specs.declared.CrashReason.{CrashReason}
@@ -30,7 +29,7 @@ use Rattle.crash_threads.specs.Counting.{counting_exception}
 use Rattle.crash_threads.specs.Frames.{CrashWalkValue, code_bits_in, crash_walk_of, exception_walked}
 use Rattle.crash_threads.specs.Frames.{thread_walked, walk_from}
 use Rattle.crash_threads.specs.Last.{last_index}
-use Rattle.crash_threads.specs.Stacks.{is_outside, named_stack, stack_memory}
+use Rattle.crash_threads.specs.Addresses.{is_outside, named_stack, stack_memory}
 
 -- a thread: its id, whether the list has it, its name, its registers and why its own context gives
 -- none, its stack, the memory of that and what is found in it, and its last error

@@ -98,13 +98,14 @@ pub(crate) fn facts_of(contents: &Contents<'_>, address: u64) -> AddressFacts
 fn is_canonical(contents: &Contents<'_>, address: u64) -> bool
     ensures { result ≡ is_canonical (system_of (contents_of contents.now)) address }
 {
-    match &contents.system.system {
-        Ok(system) => match system.cpu {
+    contents
+        .system
+        .system
+        .as_ref()
+        .map_or(true, |system| match system.cpu {
             Cpu::X86_64 => address < 0x8000_0000_0000 || address >= 0xffff_8000_0000_0000,
             _ => true,
-        },
-        Err(_) => true,
-    }
+        })
 }
 
 // Returns the index of the last unloaded module that contains an address.

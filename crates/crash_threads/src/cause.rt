@@ -2,22 +2,19 @@ ghost use Rattle.std.specs.Prelude.{◌≡◌, IfOk, IsOkUnless, map, string_byt
 ghost use Rattle.std.specs.Option.{option_and_then, option_copied, option_map};
 ghost use Rattle.minidump.specs.Below.Contexts.Context.{map_ok};
 ghost use Rattle.minidump.specs.Promise.{exception_stream, system_info_stream};
-ghost use Rattle.crash_threads.specs.Cause.{address_at, address_unless, cause_in, cause_of};
-ghost use Rattle.crash_threads.specs.Cause.{counted_exception, exception_in, exception_of, is_instruction};
-ghost use Rattle.crash_threads.specs.Cause.{reason_in};
+ghost use Rattle.crash_threads.specs.Cause.{address_at, address_unless, cause_in, cause_of, counted_exception};
+ghost use Rattle.crash_threads.specs.Cause.{exception_in, exception_of, is_instruction, reason_in};
 ghost use Rattle.crash_streams.specs.Contents.{contents_of};
 ghost use Rattle.crash_threads.specs.Counting.{counted, counting, counting_exception};
 
 use crate::addresses::{AddressFacts, facts_of, has_code};
 use crate::contexts::{ContextProblem, context_on, named_bytes, problem_in};
-use crate::frames::context_of;
 use crate::last::last_index;
-use crate::point::instruction_pointer_of;
 use crash_streams::{
     Access, Contents, Sender, access_of, description_of, lacks_address, may_be_instruction,
     parameters_of, sender_of,
 };
-use minidump::{CodeNames, Error, MinidumpException, MinidumpSystemInfo};
+use minidump::{CodeNames, Error, MinidumpContext, MinidumpException, MinidumpSystemInfo};
 use minidump_bytes::as_text;
 use std::alloc::Global;
 
@@ -203,10 +200,9 @@ fn is_instruction(
     let Some(bytes) = exception.context_bytes() else {
         return false;
     };
-    match context_on(system, exception.endian(), bytes) {
-        Some(found) => instruction_pointer_of(&context_of(&found)) == address,
-        None => false,
-    }
+    context_on(system, exception.endian(), bytes).is_some_and(|found| {
+        MinidumpContext::from_raw(found.raw).get_instruction_pointer() == address
+    })
 }
 
 // Makes the words for the reason of the crash.
@@ -249,10 +245,7 @@ fn counted(
     ensures { option_map exception_of (option_copied result)
         ≡ counted (map (map_ok exception_of) exceptions.now) counts }
 {
-    match exceptions.get(counts?)? {
-        Ok(exception) => Some(exception),
-        Err(_) => None,
-    }
+    exceptions.get(counts?)?.as_ref().ok()
 }
 
 // ---- which exception counts

@@ -3,10 +3,9 @@ ghost use Rattle.std.specs.Option.{option_copied, option_map};
 ghost use Rattle.minidump.specs.Promise.{exception_stream, system_info_stream};
 ghost use Rattle.minidump.specs.Thread.{accepted_context, thread_of};
 ghost use Rattle.crash_streams.specs.Contents.{contents_of};
-ghost use Rattle.crash_threads.specs.Contexts.{any_context, context_at, context_by, context_of, context_on};
-ghost use Rattle.crash_threads.specs.Contexts.{found_in, has_general, lengths, named_bytes, old_on};
-ghost use Rattle.crash_threads.specs.Contexts.{padded, problem_in, register_values, short_context, system_of};
-ghost use Rattle.crash_threads.specs.Contexts.{unaccepted_size};
+ghost use Rattle.crash_threads.specs.Contexts.{any_context, context_at, context_by, context_of, context_on, found_in};
+ghost use Rattle.crash_threads.specs.Contexts.{lengths, named_bytes, old_on, padded, problem_in, register_values};
+ghost use Rattle.crash_threads.specs.Contexts.{short_context, system_of, unaccepted_size};
 
 use crash_streams::Contents;
 use minidump::format::{CONTEXT_ARM64_OLD, MINIDUMP_LOCATION_DESCRIPTOR};
@@ -101,11 +100,8 @@ fn old_on(cpu: Cpu, endian: Endian, bytes: &[u8]) -> Option<MinidumpRawContext>
         return None;
     };
     let context: CONTEXT_ARM64_OLD = Source::new(bytes).record(0, endian, &mut Steps::new())?;
-    if context.context_flags & 0x8000_0006 == 0x8000_0006 {
-        Some(MinidumpRawContext::OldArm64(context))
-    } else {
-        None
-    }
+    let has_registers = context.context_flags & 0x8000_0006 == 0x8000_0006;
+    has_registers.then_some(MinidumpRawContext::OldArm64(context))
 }
 
 // ---- contexts that are cut after the general registers
@@ -121,12 +117,14 @@ fn short_context(system: &MinidumpSystemInfo, endian: Endian, bytes: &[u8]) -> O
         return None;
     }
     let raw = read_padded(system, endian, bytes, whole)?;
-    if has_general(&raw) {
-        let short = Some(ShortContext { size, whole });
-        Some(FoundContext { raw, short })
-    } else {
-        None
-    }
+    // Whether its flags say that it has the control and the integer registers.
+    let has_general = match &raw {
+        MinidumpRawContext::Amd64(context) => context.context_flags & 3 == 3,
+        MinidumpRawContext::Arm64(context) => context.context_flags & 3 == 3,
+        _ => false,
+    };
+    let short = Some(ShortContext { size, whole });
+    has_general.then_some(FoundContext { raw, short })
 }
 
 // Returns how many bytes of a processor's context end with its general registers, and how many it
@@ -139,17 +137,6 @@ fn lengths(cpu: Cpu) -> Option<(usize, usize)>
         Cpu::X86_64 => Some((0x100, 1232)),
         Cpu::Arm64 => Some((0x110, 912)),
         _ => None,
-    }
-}
-
-// Tells whether the flags of a context say that it has the control and the integer registers.
-fn has_general(raw: &MinidumpRawContext) -> bool
-    ensures { result ≡ has_general raw.now }
-{
-    match raw {
-        MinidumpRawContext::Amd64(context) => context.context_flags & 3 == 3,
-        MinidumpRawContext::Arm64(context) => context.context_flags & 3 == 3,
-        _ => false,
     }
 }
 

@@ -5,10 +5,10 @@ ghost use Rattle.minidump.specs.Thread.{thread_of};
 ghost use Rattle.stack_walk.specs.Frames.{stack_of};
 ghost use Rattle.stack_walk.specs.Threads.{process_of};
 ghost use Rattle.crash_streams.specs.Contents.{contents_of};
-ghost use Rattle.crash_threads.specs.Frames.{code_bits_in, context_of, crash_walk_of, exception_walked};
+ghost use Rattle.crash_threads.specs.Frames.{code_bits_in, crash_walk_of, exception_walked};
 ghost use Rattle.crash_threads.specs.Frames.{frame_in, process_in, thread_walked, walk_from, walked_of};
 
-use crate::contexts::{FoundContext, context_at, found_context};
+use crate::contexts::{context_at, found_context};
 use crash_streams::Contents;
 use minidump::{Error, MinidumpContext, MinidumpException, MinidumpThread};
 use stack_walk::{
@@ -61,7 +61,7 @@ pub(crate) fn walked_thread<'l, 'a>(
 {
     let process = process_of(contents, code_bits, exception)?;
     let (_, found) = found_context(contents, exception, thread)?;
-    let context = context_of(&found);
+    let context = MinidumpContext::from_raw(found.raw);
     Some((process.stack_of(thread, &context), context))
 }
 
@@ -77,18 +77,11 @@ pub(crate) fn walked_exception<'l, 'a>(
 {
     let process = process_of(contents, code_bits, Some(exception))?;
     let found = context_at(contents, exception)?;
-    let context = context_of(&found);
+    let context = MinidumpContext::from_raw(found.raw);
     let memory = process
         .memory
         .memory_at_address(context.get_stack_pointer());
     Some((process.stack_on(memory), context))
-}
-
-// Returns the context that is found, all of whose registers are valid.
-pub(crate) fn context_of(found: &FoundContext) -> MinidumpContext
-    ensures { result ≡ context_of found.now }
-{
-    MinidumpContext::from_raw(found.raw)
 }
 
 // Returns what is found in a stack by a context, each frame with its module, with at most `scan`

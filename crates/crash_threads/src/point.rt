@@ -2,11 +2,10 @@
 ghost use Rattle.std.specs.Prelude.{◌≡◌, IfOk, map};
 ghost use Rattle.std.specs.Option.{option_map};
 ghost use Rattle.minidump.specs.Below.MemoryLists.Unified.{unified_list};
-ghost use Rattle.stack_walk.specs.Frames.{instruction_pointer_in, stack_of};
+ghost use Rattle.stack_walk.specs.Frames.{stack_of};
 ghost use Rattle.crash_streams.specs.Contents.{contents_of};
-ghost use Rattle.crash_threads.specs.Point.{arm64_flags, arm_flags, code_at, flags_of, names_in};
-ghost use Rattle.crash_threads.specs.Point.{point_in, point_of, register_facts, set_flags, word_at};
-ghost use Rattle.crash_threads.specs.Point.{words_from, x86_flags};
+ghost use Rattle.crash_threads.specs.Point.{arm64_flags, arm_flags, code_at, flags_of, names_in, point_in, point_of};
+ghost use Rattle.crash_threads.specs.Point.{register_facts, set_flags, word_at, words_from, x86_flags};
 
 use crate::addresses::{AddressFacts, facts_of};
 use crate::contexts::register_values;
@@ -70,7 +69,7 @@ pub fn point_of<'a>(
     let Some((stack, context)) = walked_at(contents, code_bits, thread) else {
         return Ok(None);
     };
-    let instruction = instruction_pointer_of(&context);
+    let instruction = context.get_instruction_pointer();
     Ok(Some(CrashPoint {
         instruction: facts_of(contents, instruction),
         registers: register_facts(alloc, contents, &context)?,
@@ -79,13 +78,6 @@ pub fn point_of<'a>(
         flags: flags_of(alloc, &context.raw)?,
         set_flags: set_flags_of(alloc, &context.raw)?,
     }))
-}
-
-// Returns the instruction pointer of a context.
-pub(crate) fn instruction_pointer_of(context: &MinidumpContext) -> u64
-    ensures { result ≡ instruction_pointer_in context.now.raw }
-{
-    context.get_instruction_pointer()
 }
 
 // ---- the registers

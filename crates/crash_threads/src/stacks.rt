@@ -1,7 +1,7 @@
 ghost use Rattle.std.specs.Prelude.{◌≡◌};
 ghost use Rattle.minidump.specs.Thread.{thread_of};
 ghost use Rattle.crash_streams.specs.Contents.{contents_of};
-ghost use Rattle.crash_threads.specs.Stacks.{is_outside, named_stack, stack_memory};
+ghost use Rattle.crash_threads.specs.Addresses.{named_stack, stack_memory};
 
 use crash_streams::Contents;
 use minidump::MinidumpThread;
@@ -20,13 +20,11 @@ pub struct StackRange {
 pub(crate) fn named_stack(stack: &MINIDUMP_MEMORY_DESCRIPTOR) -> Option<StackRange>
     ensures { result ≡ named_stack stack.now }
 {
-    if stack.memory.data_size == 0 {
-        return None;
-    }
-    Some(StackRange {
+    let range = StackRange {
         base: stack.start_of_memory_range,
         size: stack.memory.data_size as u64,
-    })
+    };
+    (range.size != 0).then_some(range)
 }
 
 // Returns the memory of a stack.
@@ -41,12 +39,4 @@ pub(crate) fn stack_memory<'a>(
         base: region.base_address(),
         size: region.size(),
     })
-}
-
-// Tells whether a thread names bytes of a stack that are not in the file.
-pub(crate) fn is_outside(thread: &MinidumpThread<'_>) -> bool
-    ensures { result ≡ is_outside (thread_of thread.now) }
-{
-    let location = &thread.raw.stack.memory;
-    location.rva != 0 && location.data_size != 0 && thread.own_stack().is_none()
 }

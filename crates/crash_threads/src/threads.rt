@@ -16,7 +16,7 @@ use crate::contexts::{
 };
 use crate::frames::{CrashWalk, code_bits_of, walk_of, walked_exception, walked_thread};
 use crate::last::last_index;
-use crate::stacks::{StackRange, is_outside, named_stack, stack_memory};
+use crate::stacks::{StackRange, named_stack, stack_memory};
 use crash_streams::{Contents, owned_text};
 use minidump::system_info::Os;
 use minidump::{
@@ -165,6 +165,11 @@ fn thread_in<'a>(
 {
     let id = item.raw.thread_id;
     let bytes = named_bytes(&item.raw.thread_context, item.context_bytes());
+    let location = &item.raw.stack.memory;
+    let is_stack_outside = location.rva != 0
+        && location.data_size != 0
+        && item.own_stack().is_none();
+    let walked = walked_thread(contents, code_bits, exception, item);
     Ok(CrashThread {
         id,
         is_listed: true,
@@ -173,12 +178,8 @@ fn thread_in<'a>(
         context_problem: problem_in(contents, item.endian(), bytes),
         stack: named_stack(&item.raw.stack),
         stack_memory: stack_memory(contents, item),
-        is_stack_outside: is_outside(item),
-        walk: walk_of(
-            alloc,
-            walked_thread(contents, code_bits, exception, item),
-            scan,
-        )?,
+        is_stack_outside,
+        walk: walk_of(alloc, walked, scan)?,
         last_error: last_error_of(alloc, contents, names, item)?,
     })
 }
@@ -216,6 +217,7 @@ fn extra<'l, 'a>(
         ContextOrigin::OfException,
         context,
     ));
+    let walked = walked_exception(contents, code_bits, exception);
     Ok(CrashThread {
         id,
         is_listed: false,
@@ -225,11 +227,7 @@ fn extra<'l, 'a>(
         stack: None,
         stack_memory: None,
         is_stack_outside: false,
-        walk: walk_of(
-            alloc,
-            walked_exception(contents, code_bits, exception),
-            scan,
-        )?,
+        walk: walk_of(alloc, walked, scan)?,
         last_error: None,
     })
 }
@@ -285,10 +283,7 @@ pub(crate) fn entries_of<'l, 'a>(
 fn name_of(names: &Result<MinidumpThreadNames, Error>, id: u32) -> Option<&str>
     ensures { option_copied result ≡ name_in (map_ok thread_names_stream.value names.now) id }
 {
-    match names {
-        Ok(names) => names.get_name(id),
-        Err(_) => None,
-    }
+    names.as_ref().ok()?.get_name(id)
 }
 
 // Makes the words for the last error of a thread, which Windows alone keeps.

@@ -106,5 +106,5 @@ pub fn read_build(alloc: Global, bytes: &[u8]) -> Result<Build, Error>
     ensures { Gives build_of (HasEntries bytes.now) result (build_of_file bytes.now) }
 {
     let dump = Minidump::read(alloc, bytes)?;
-    dump.get_stream(alloc)
+    Ok(dump.get_stream(alloc)?)
 }

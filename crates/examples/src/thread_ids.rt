@@ -13,16 +13,14 @@
 //! can't be opened, and is empty where a read fails or finds no memory: `thread_ids_of_file`. The
 //! proofs use the contracts and a law of `minidump`, and nothing below.
 
-ghost use Rattle.std.specs.Prelude.{◌≡◌, IfOk, map};
+ghost use Rattle.std.specs.Prelude.{◌≡◌, Err, IfErr, IfOk, OnOk, map};
 ghost use Rattle.minidump.specs.Below.Format.Answer.{Gives};
 ghost use Rattle.minidump.specs.Dump.{HasEntries};
+ghost use Rattle.minidump.specs.File.{IsFile, ReadsFile};
 ghost use Rattle.minidump.specs.Promise.{thread_list_stream};
 ghost use Rattle.examples.specs.ThreadIds.{ids_in, ids_of};
 
-mod file;
-
-pub use file::thread_ids_of_file;
-use minidump::{Error, Minidump, MinidumpThreadList, laws};
+use minidump::{Error, Minidump, MinidumpThreadList, OpenPath, laws, read_file};
 use std::alloc::{AllocError, Global};
 
 /// Returns the ids of the threads of a minidump, in the order of its list. `bytes` are those of the
@@ -35,6 +33,28 @@ pub fn thread_ids(alloc: Global, bytes: &[u8]) -> Result<Vec<u32>, Error>
     let dump = Minidump::read(alloc, bytes)?;
     let threads = dump.get_stream(alloc)?;
     Ok(ids_of(alloc, &threads)?)
+}
+
+/// Reads a file into `bytes`, and returns the ids of its threads, or the error of [`thread_ids`].
+///
+/// The outer error is that of reading the file: after `FileNotFound` `bytes` are as they were,
+/// after `IoError` and `OutOfMemory` there are none. Else they are those of the file, whatever the
+/// inner result is.
+pub fn thread_ids_of_file<R: OpenPath>(
+    rt: &R,
+    alloc: Global,
+    path: &str,
+    bytes: &mut Vec<u8>,
+) -> Result<Result<Vec<u32>, Error>, Error>
+    ensures error { IfErr result (λ e. ReadsFile
+        (R.opens rt.now) R.File.left R.File.failed path.now bytes.old.items
+        bytes.new.items (Err e)) }
+    ensures read { OnOk result (IsFile (R.opens rt.now) R.File.left path.now bytes.new.items) }
+    ensures ids { IfOk result (λ ids. Gives (λ v. v.items) (HasEntries bytes.new.items) ids
+        (ids_in bytes.new.items)) }
+{
+    read_file(rt, path, bytes)?;
+    Ok(thread_ids(alloc, bytes.as_slice()))
 }
 
 // Returns the ids of threads. The law takes the clause from the entries to the value of the stream.

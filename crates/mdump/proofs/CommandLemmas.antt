@@ -1,17 +1,48 @@
--- The words of a command.
-use Rattle.std.proofs.Common.{◌≡◌, ◌↔◌, ℕ, List, [], ◌∷◌, codes, subst, Option, Some, None}
-use Rattle.mdump.specs.Address.{SpellsAddress}
-use Rattle.mdump.specs.Command.{IsTaskOf}
-use Rattle.mdump.specs.declared.command.Task.{Task}
-use Rattle.mdump.specs.declared.command.Task.TheVariants.{Dir, At, Report}
+-- The spelling of an address.
+use Rattle.std.proofs.Common.{◌≡◌, ◌≢◌, ◌↔◌, inl, inr, ℕ, ◌<◌, ◌≤◌, ◌^◌, List, ◌++◌, length, get_or, codes, lit<, arith, ap, sym, subst, ◌∙◌, Option}
+use Rattle.std.proofs.Common.{Some, Result, Ok, Err}
+use Rattle.std.specs.Result.{result_ok}
+use Rattle.std.specs.Str.Parse.{AllDigits, digits_value, ParsesUnsigned}
+use Rattle.std.proofs.lemmas.Str.Parse.{without_leading_plus_none}
+use Rattle.std.proofs.lemmas.Int.Digits.{digits_value-lt}
+use Rattle.std.proofs.Math.Nat.{pow-le-pow_right}
+use Rattle.mdump.specs.Command.{WritesHex, SpellsAddress}
 
-module _ (words : List (List ℕ)) (path address : List ℕ) (o : Option ℕ) where
-  -- `at` with a word that spells no address is no command
-  pub no_address : words ≡ codes "at" ∷ path ∷ address ∷ [] → o ≡ None → ((n : ℕ) → (o ≡ Some n) ↔ SpellsAddress address n)
-      → (p : List ℕ) (task : Task) → IsTaskOf words p task → ⊥
-  no_address are none reads p Dir means = cc
-  no_address are none reads p Report means = cc
-  no_address are none reads p (At n) means =
-      let same : means.0 ≡ address = let meant = means.1 in cc in
-      let some : o ≡ Some n = (reads n).1 (subst (λ w. SpellsAddress w n) same means.2) in
-      cc
+-- 16 digits fit 64 bits
+hex_fits : (ds : List ℕ) {n : ℕ} → WritesHex ds n → digits_value 16 ds < 2 ^ 64
+hex_fits ds w =
+    let below = digits_value-lt 16 ds w.numeral.1 in
+    let most = pow-le-pow_right {n = 16} (lit< tt) w.short in
+    omega (arith, below, most)
+
+-- what `from_str_radix` reads with no sign is what the digits write
+pub reads_hex : {E : Type 0} (ds : List ℕ) (r : Result ℕ E) → ParsesUnsigned 64 16 ds r → get_or ds 0 0 ≢ 43 → length ds ≤ 16
+    → (n : ℕ) → (result_ok r ≡ Some n) ↔ WritesHex ds n
+reads_hex ds (Ok x) h plain short n =
+    let k = rw (without_leading_plus_none ds plain) at h in
+    ((λ e. record { numeral = k.0.0; short = short; value = let same : x ≡ n = cc in sym k.1 ∙ same }), λ w. ap Some (k.1 ∙ w.value))
+reads_hex ds (Err e) h plain short n =
+    let k = rw (without_leading_plus_none ds plain) at h in
+    ((λ e. absurd cc), λ w. absurd (k (w.numeral, hex_fits ds w)))
+
+-- an `x` is no digit
+no_prefix : (word rest : List ℕ) {n : ℕ} → word ≡ codes "0x" ++ rest → WritesHex word n → ⊥
+no_prefix word rest e w = let digits : AllDigits 16 (codes "0x" ++ rest) = subst (AllDigits 16) e w.numeral.1 in omega (arith, digits.1.0)
+
+-- the address after the prefix
+pub after_prefix : (word rest : List ℕ) (o : Option ℕ) → word ≡ codes "0x" ++ rest → ((n : ℕ) → (o ≡ Some n) ↔ WritesHex rest n)
+    → (n : ℕ) → (o ≡ Some n) ↔ SpellsAddress word n
+after_prefix word rest o e reads n = (
+  (λ is. inr (rest, e, (reads n).0 is)),
+  λ s. elim s [
+    | inl w ↦ absurd (no_prefix word rest e w)
+    | inr p ↦ let same : p.0 ≡ rest = let there = p.1 in cc in
+        (reads n).1 (subst (λ l. WritesHex l n) same p.2)
+  ],
+)
+
+-- the address of a word with no prefix
+pub with_no_prefix : (word : List ℕ) (o : Option ℕ) → ((rest : List ℕ) → word ≢ codes "0x" ++ rest) → ((n : ℕ) → (o ≡ Some n) ↔ WritesHex word n)
+    → (n : ℕ) → (o ≡ Some n) ↔ SpellsAddress word n
+with_no_prefix word o lacks reads n =
+    ((λ is. inl ((reads n).0 is)), λ s. elim s [ inl w ↦ (reads n).1 w | inr p ↦ absurd (lacks p.0 p.1) ])

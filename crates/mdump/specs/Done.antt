@@ -1,16 +1,20 @@
 -- What the program writes.
-use Rattle.std.specs.Prelude.{◌≡◌, ◌↔◌, ◌⊎◌, ℕ, ◌≤◌, ◌++◌, List, [], ◌∷◌, bytes_eq, codes, Bool, true}
+use Rattle.std.specs.Prelude.{◌≡◌, ◌⊎◌, ℕ, ◌++◌, List, [], ◌∷◌, bytes_eq, codes, Bool, true}
 use Rattle.std.specs.Prelude.{if◌then◌else◌, Option, Some, None, Result, Ok, Err, IfErr, IsErrAnd, IsOkAnd, ⊤}
-use Rattle.std.specs.Option.{option_map, option_or}
+use Rattle.std.specs.List.{concat}
+use Rattle.std.specs.Option.{option_and_then, option_map, option_or}
 use Rattle.std.specs.Result.{result_ok}
 use Rattle.minidump.specs.declared.Told.{Told}
-use Rattle.minidump.specs.Below.Bytes.Told.{PutsAll, PutsPrefix, has_failed}
 use Rattle.minidump.specs.declared.Error.{Error}
-use Rattle.minidump.specs.declared.Error.TheVariants.{IoError, OutOfMemory}
+use Rattle.minidump.specs.declared.Error.TheVariants.{IoError}
+use Rattle.minidump.specs.declared.Range.{Range}
+use Rattle.minidump.specs.Below.Bytes.Piece.{hex}
+use Rattle.minidump.specs.Below.Bytes.Told.{PutsAll, PutsPrefix, has_failed}
 use Rattle.minidump.specs.Below.Format.Error.{name_of_error}
 use Rattle.minidump.specs.Below.Format.Print.{Prints}
+use Rattle.minidump.specs.Below.Index.Lookup.{looked_up}
 use Rattle.minidump.specs.Below.MemoryLists.Memory.{range_of_region}
-use Rattle.minidump.specs.Below.MemoryLists.Unified.{UnifiedRegions, unified_regions}
+use Rattle.minidump.specs.Below.MemoryLists.Unified.{UnifiedRegion, unified_regions}
 use Rattle.minidump.specs.Below.MemoryLists.UnifiedInfo.{InfoRegions, OfInfo, OfMaps}
 use Rattle.minidump.specs.Below.MemoryLists.UnifiedInfo.{range_of_info_region, info_regions}
 use Rattle.minidump.specs.Below.Modules.Module.{ModuleValue, range_of_module}
@@ -25,7 +29,6 @@ use Rattle.mdump.specs.declared.command.Command.{Command}
 use Rattle.mdump.specs.declared.command.Task.{Task}
 use Rattle.mdump.specs.declared.command.Task.TheVariants.{Dir, At, Report}
 use Rattle.mdump.specs.Command.{IsCommand, IsCommandOf}
-use Rattle.mdump.specs.Lines.{info_line, looked_up_in, memory_line, module_line}
 
 -- the help
 abbrev pub usage : List ℕ
@@ -35,16 +38,12 @@ usage = codes "usage: mdump dir FILE | at FILE HEXADDRESS | report FILE\n"
 abbrev pub version : List ℕ
 version = codes "mdump 0.27.0+rattle.1\n"
 
--- the text that one word asks for
-abbrev pub told_by : List ℕ → Option (List ℕ)
-told_by word = if bytes_eq word (codes "--help") then Some usage
-    else if bytes_eq word (codes "--version") then Some version else None
-
--- the text that words ask for without a file: without words the usage
+-- the text that words ask for without a file: the usage or the version. Without words the usage
 abbrev pub told_of : List (List ℕ) → Option (List ℕ)
 told_of [] = Some usage
-told_of (word ∷ []) = told_by word
-told_of (word ∷ next ∷ words) = None
+told_of (word ∷ []) = if bytes_eq word (codes "--help") then Some usage
+    else if bytes_eq word (codes "--version") then Some version else None
+told_of _ = None
 
 -- what the dump has on regions: the memory information, where it can be read; else the map lines of Linux,
 -- where they can be. After a miss in the information the map lines are not looked at
@@ -53,17 +52,42 @@ info_of_dump dump =
     option_or (option_map OfInfo (result_ok (stream_of memory_info_list_stream dump)))
     (option_map OfMaps (result_ok (stream_of linux_maps_stream dump)))
 
+-- the region of memory that was found, by its first address and its size, or that there is none
+abbrev pub memory_line : Option UnifiedRegion → List ℕ
+memory_line (Some region) = concat (
+    codes "memory " ∷ hex region.base_address ∷ codes " " ∷ hex region.size ∷ codes "\n" ∷ [])
+memory_line None = codes "memory none\n"
+
+-- the module that was found, by its first address, its size and its name, or that there is none.
+-- The name is as it is, line feeds included
+abbrev pub module_line : Option ModuleValue → List ℕ
+module_line (Some m) = concat (
+    codes "module " ∷ hex m.raw.base_of_image ∷ codes " " ∷ hex m.raw.size_of_image ∷ codes " " ∷ m.name
+    ∷ codes "\n" ∷ [])
+module_line None = codes "module none\n"
+
+-- the first and the last address of the region that was found in the memory information or the maps, or
+-- that there is none, or that it has no addresses
+abbrev pub info_line : Option Range → List ℕ
+info_line (Some range) = concat (codes "info " ∷ hex range.start ∷ codes " " ∷ hex range.end ∷ codes "\n" ∷ [])
+info_line None = codes "info none\n"
+
+-- the result of a lookup in the list of a dump: none of a dump whose list is missing or malformed
+abbrev pub looked_up_in : {R : Type 0} → (R → Option Range) → Option (List R) → ℕ → Option R
+looked_up_in range list address = option_and_then (λ regions. looked_up range regions address) list
+
+-- the range of the kept region that contains an address, by the memory information or the maps
+abbrev pub range_found : Option InfoRegions → ℕ → Option Range
+range_found infos address = option_and_then range_of_info_region
+    (looked_up_in range_of_info_region (option_map info_regions infos) address)
+
 -- the lines of what lies at an address, by the lists of a dump: the kept region of the memory that
 -- contains it, the kept module, and the kept region of the information on memory
-abbrev pub lines_at : Option UnifiedRegions → Option (List ModuleValue) → Option InfoRegions → ℕ → List ℕ
-lines_at memory modules infos address =
-    memory_line (looked_up_in range_of_region (option_map unified_regions memory) address)
-    ++ (module_line (looked_up_in range_of_module modules address)
-    ++ info_line (looked_up_in range_of_info_region (option_map info_regions infos) address))
-
--- the same, by the dump
 abbrev pub lines_of : Dump → ℕ → List ℕ
-lines_of dump address = lines_at (memories_of_dump dump) (modules_of_dump dump) (info_of_dump dump) address
+lines_of dump address =
+    memory_line (looked_up_in range_of_region (option_map unified_regions (memories_of_dump dump)) address)
+    ++ (module_line (looked_up_in range_of_module (modules_of_dump dump) address)
+    ++ info_line (range_found (info_of_dump dump) address))
 
 -- what a task prints of a minidump; its report is without names of codes
 abbrev pub text_of : Task → Dump → List ℕ
@@ -119,31 +143,16 @@ abbrev pub error_line : List ℕ → Error → List ℕ
 error_line subject e = subject ++ (codes ": " ++ (name_of_error e ++ codes "\n"))
 
 -- What a run of the program with these words wrote, by its status. 0: the output took what the
--- words ask for. 1: there was an error, whose line standard error took. The output is as it was, or
--- took a prefix of what the words ask for. 2: the words are no command, and standard error took the
--- usage.
-pub record IsRun {F O E : Type 0} (opens : List ℕ → Option F → Type 0) (left : F → Option (List ℕ))
-    (failed : F → Bool) (output : O → Option (List ℕ))
-    (errors : E → Option (List ℕ)) (words : List (List ℕ)) (out_old out_new : Told O)
-    (err_old err_new : Told E) (status : ℕ) : Type 0 where
-  pub known : status ≤ 2
-  pub done : status ≡ 0 → IsAnswered opens left failed output out_old out_new words (Ok tt)
-      × (err_new ≡ err_old)
-  pub failure : status ≡ 1
-      → (e : Error) × IsAnswered opens left failed output out_old out_new words (Err e)
-      × IsTold errors err_old err_new (error_line (subject_of words) e)
-  pub usage : status ≡ 2 → (out_new ≡ out_old) × IsTold errors err_old err_new usage
-  pub bad : status ≡ 2 ↔ ((told_of words ≡ None) × ¬ (IsCommand words))
-
--- there was no memory for the list of the process's arguments: standard error took the line of
--- `OutOfMemory`, and the output nothing
-abbrev pub IsOutOfMemory : {O E : Type 0} → (E → Option (List ℕ)) → Told O → Told O → Told E
-    → Told E → ℕ → Type 0
-IsOutOfMemory errors out_old out_new err_old err_new status =
-    (status ≡ 1) × (out_new ≡ out_old) × IsTold errors err_old err_new (error_line (codes "mdump") OutOfMemory)
-
--- the words are no command: standard error took the usage, and the output nothing
-abbrev pub IsNoCommand : {O E : Type 0} → (E → Option (List ℕ)) → Told O → Told O → Told E → Told E
-    → ℕ → Type 0
-IsNoCommand errors out_old out_new err_old err_new status =
-    (status ≡ 2) × (out_new ≡ out_old) × IsTold errors err_old err_new usage
+-- words ask for, and standard error nothing. 1: there was an error, whose line standard error took. The
+-- output is as it was, or took a prefix of what the words ask for. 2: the words are no command.
+-- Standard error took the usage, and the output nothing.
+unfoldable pub IsRun : {F O E : Type 0} (opens : List ℕ → Option F → Type 0) (left : F → Option (List ℕ))
+    (failed : F → Bool) (output : O → Option (List ℕ)) (errors : E → Option (List ℕ))
+    (words : List (List ℕ)) (out_old out_new : Told O) (err_old err_new : Told E) (status : ℕ) → Type 0
+IsRun opens left failed output errors words out_old out_new err_old err_new status =
+    ((status ≡ 0) × IsAnswered opens left failed output out_old out_new words (Ok tt)
+    × (err_new ≡ err_old))
+    ⊎ (((status ≡ 1) × ((e : Error) × IsAnswered opens left failed output out_old out_new words (Err e)
+    × IsTold errors err_old err_new (error_line (subject_of words) e)))
+    ⊎ ((status ≡ 2) × (told_of words ≡ None) × (¬ (IsCommand words)) × (out_new ≡ out_old)
+    × IsTold errors err_old err_new usage))

@@ -38,20 +38,19 @@
 //! reviewed.
 #![tactic(auto)]
 
-mod address;
 mod command;
 mod lines;
 mod program;
-mod start;
 
 use minidump::Told;
 pub use program::run;
+use program::{arguments, run_arguments};
 use std::env;
 use std::process::ExitCode;
 
 fn main(rt: HostRuntime) -> ExitCode {
     let mut out = Told::new(rt.stdout());
     let mut err = Told::new(rt.stderr());
-    let args = start::arguments(rt.alloc(), env::args(&rt));
-    start::run_arguments(&rt, args, &mut out, &mut err)
+    let args = arguments(rt.alloc(), env::args(&rt));
+    run_arguments(&rt, args, &mut out, &mut err)
 }

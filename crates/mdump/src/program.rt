@@ -1,16 +1,24 @@
-ghost use Rattle.std.specs.Prelude.{◌≡◌, IfErr, IfNone, IfSome, None, map, string_bytes};
+ghost use Rattle.std.specs.Prelude.{◌≡◌, ◌≢◌, IfErr, IfNone, IfOk, IfSome, IsErrAnd, None, codes, drop, map};
+ghost use Rattle.std.specs.Prelude.{string_bytes};
+ghost use Rattle.std.specs.IoError.{error_kind};
+ghost use Rattle.std.specs.Iterator.{Drains};
 ghost use Rattle.std.specs.Option.{option_map};
+ghost use Rattle.std.specs.Process.{exit_status};
+ghost use Rattle.std.specs.Vec.Iter.{into_iter_steps};
 ghost use Rattle.minidump.specs.Below.Format.Print.{Prints};
 ghost use Rattle.mdump.specs.Command.{IsCommand};
-ghost use Rattle.mdump.specs.Done.{IsAnswered, IsDone, IsDoneOn, IsRun, IsTold, error_line};
+ghost use Rattle.mdump.specs.Done.{IsAnswered, IsDone, IsRun, IsTold, error_line};
 ghost use Rattle.mdump.specs.Done.{subject_of, told_of, usage};
 
 use crate::command::{Command, Task};
 use crate::lines::print_lines;
 use minidump::text::put_text;
 use minidump::{CodeNames, Error, Minidump, OpenPath, Told, read_file, write_report};
-use std::alloc::Global;
-use std::io::Write;
+use std::alloc::{AllocError, Global};
+use std::env::Args;
+use std::io;
+use std::io::{ErrorKind, Write};
+use std::process::ExitCode;
 
 const USAGE: &str = "usage: mdump dir FILE | at FILE HEXADDRESS | report FILE\n";
 
@@ -48,6 +56,53 @@ pub fn run<R: OpenPath + AllocGlobal, O: Write, E: Write>(
     }
 }
 
+/// Runs the program with the arguments of its process, of which the first is its own name, and
+/// returns the status. If memory ran out for the arguments, that is the error `OutOfMemory`. Any
+/// other error of `args` stands for arguments that are no command.
+pub(crate) fn run_arguments<R: OpenPath + AllocGlobal, O: Write, E: Write>(
+    rt: &R,
+    args: io::Result<Vec<String>>,
+    out: &mut Told<O>,
+    err: &mut Told<E>,
+) -> ExitCode
+    ensures ran { IfOk args
+        (λ a. IsRun (R.opens rt.now) R.File.left R.File.failed O.contents E.contents
+        (drop 1 (map string_bytes a.items)) out.old out.new err.old err.new (exit_status result)) }
+    ensures no_memory { IfErr args (λ e. error_kind e ≡ ErrorKind.OutOfMemory
+        → (exit_status result ≡ 1) × IsTold E.contents err.old err.new
+        (error_line (codes "mdump") Error.OutOfMemory)) }
+    ensures no_text { IfErr args (λ e. error_kind e ≢ ErrorKind.OutOfMemory
+        → (exit_status result ≡ 2) × IsTold E.contents err.old err.new usage) }
+    ensures kept { IfErr args (λ _. out.new ≡ out.old) }
+{
+    let status = match args {
+        Ok(args) => run(rt, args.get(1..).unwrap_or(&[]), out, err),
+        Err(error) if error.kind() == ErrorKind::OutOfMemory => {
+            fail_with("mdump", Error::OutOfMemory, err)
+        }
+        // An argument that is not UTF-8 is part of no command.
+        Err(_) => bad_arguments(err),
+    };
+    ExitCode::from(status)
+}
+
+/// Returns the arguments of the process, its own name included, or the error if they can't be read.
+pub(crate) fn arguments(alloc: Global, args: io::Result<Args>) -> io::Result<Vec<String>>
+    ensures all { IfOk args (λ a. IfOk result (λ v. Drains into_iter_steps a v.items)) }
+    ensures memory { IfOk args (λ _. IfErr result (λ e. error_kind e ≡ ErrorKind.OutOfMemory)) }
+    ensures error { IfErr args (λ e. IsErrAnd result (λ found. found ≡ e)) }
+{
+    Ok(collect_arguments(alloc, args?)?)
+}
+
+// Returns all that an iterator yields.
+#[tactic(auto, using(crate::proofs::ProgramLemmas::collect_drains))]
+fn collect_arguments(alloc: Global, args: Args) -> Result<Vec<String>, AllocError>
+    ensures { IfOk result (λ v. Drains into_iter_steps args v.items) }
+{
+    args.collect(alloc)
+}
+
 // Returns what an error of these words is said of: the path of their command, or else the program.
 fn subject_of(words: &[String]) -> &str
     ensures { result.now ≡ subject_of (map string_bytes words.now) }
@@ -78,12 +133,8 @@ fn answer<R: OpenPath + AllocGlobal, O: Write>(
 ) -> Option<Result<(), Error>>
     ensures some { IfSome result (IsAnswered (R.opens rt.now) R.File.left R.File.failed
         O.contents out.old out.new (map string_bytes words.now)) }
-    ensures command { IfSome result
-        (λ _. (told_of (map string_bytes words.now) ≡ None)
-        → ¬ (IsCommand (map string_bytes words.now)) → ⊥) }
     ensures none { IfNone result ((told_of (map string_bytes words.now) ≡ None)
-        × ¬ (IsCommand (map string_bytes words.now))
-        × (out.new ≡ out.old)) }
+        × ¬ (IsCommand (map string_bytes words.now)) × (out.new ≡ out.old)) }
 {
     if let Some(text) = told_of(words) {
         return Some(put_text(out, text));
@@ -93,6 +144,7 @@ fn answer<R: OpenPath + AllocGlobal, O: Write>(
 }
 
 // Obeys a command.
+#[tactic(auto, using(crate::proofs::ProgramLemmas::reported))]
 fn obey<R: OpenPath + AllocGlobal, O: Write>(
     rt: &R,
     command: Command<'_>,
@@ -104,28 +156,15 @@ fn obey<R: OpenPath + AllocGlobal, O: Write>(
     let alloc = rt.alloc();
     let mut bytes = Vec::new(alloc);
     read_file(rt, command.path, &mut bytes)?;
-    write_task(alloc, command.task, bytes.as_slice(), out)
-}
-
-// Does a task on a minidump, whose bytes are `bytes`.
-#[tactic(auto, using(crate::proofs::PrintLemmas::reported))]
-fn write_task<O: Write>(
-    alloc: Global,
-    task: Task,
-    bytes: &[u8],
-    out: &mut Told<O>,
-) -> Result<(), Error>
-    ensures { IsDoneOn O.contents out.old out.new task bytes.now result }
-{
-    match task {
-        Task::Dir => Minidump::read(alloc, bytes)?.print(alloc, out),
-        Task::At(address) => print_lines(&Minidump::read(alloc, bytes)?, alloc, address, out),
-        Task::Report => write_report(alloc, bytes, &CodeNames::empty(), out),
+    match command.task {
+        Task::Dir => Minidump::read(alloc, &bytes)?.print(alloc, out),
+        Task::At(address) => print_lines(&Minidump::read(alloc, &bytes)?, alloc, address, out),
+        Task::Report => write_report(alloc, &bytes, &CodeNames::empty(), out),
     }
 }
 
-/// Writes the name of an error to `err`, after what it is said of, and returns the status.
-pub(crate) fn fail_with<E: Write>(subject: &str, error: Error, err: &mut Told<E>) -> u8
+// Writes the name of an error to `err`, after what it is said of, and returns the status.
+fn fail_with<E: Write>(subject: &str, error: Error, err: &mut Told<E>) -> u8
     ensures status { result ≡ 1 }
     ensures named { IsTold E.contents err.old err.new (error_line subject.now error) }
 {
@@ -143,8 +182,8 @@ fn put_error<E: Write>(subject: &str, error: Error, err: &mut Told<E>) -> Result
     put_text(err, "\n")
 }
 
-/// Writes the usage to `err`, and returns the status of arguments that are no command.
-pub(crate) fn bad_arguments<E: Write>(err: &mut Told<E>) -> u8
+// Writes the usage to `err`, and returns the status of arguments that are no command.
+fn bad_arguments<E: Write>(err: &mut Told<E>) -> u8
     ensures status { result ≡ 2 }
     ensures told { IsTold E.contents err.old err.new usage }
 {

@@ -1,75 +1,95 @@
--- Each caller and each candidate has its evidence.
-use Rattle.std.proofs.Common.{◌≡◌, ℕ, ◌+◌, ◌-◌, ◌*◌, List, [], ◌∷◌, ◌++◌, Bool, Option, Some, None, arith, inl, inr, sym}
-use Rattle.std.specs.Prelude.{All, Contains, ◌&&◌, nat_lt, unwrap_or, if◌then◌else◌}
+-- Each caller and each candidate has its evidence; and what the candidate of the link register is, with which a scan begins.
+use Rattle.std.proofs.Common.{◌≡◌, ℕ, zero, suc, ◌+◌, ◌*◌, ◌<◌, List, [], ◌∷◌, ◌++◌, Bool, Option, Some, None, arith, inl, inr, refl, subst, sym}
+use Rattle.std.specs.Prelude.{All, Contains, ◌&&◌, nat_lt, slice_get, if◌then◌else◌}
 use Rattle.std.specs.List.{cons_option, range_with_len}
-use Rattle.std.specs.Option.{option_and_then, option_map}
+use Rattle.std.specs.Option.{option_and_then}
+use Rattle.std.proofs.lemmas.Bool.{and_parts}
 use Rattle.std.proofs.lemmas.Bool.Decides.{nat_tests}
 use Rattle.std.proofs.lemmas.List.Elements.{All-append, All-cons, All-contains, All-nil, All-take}
+use Rattle.std.proofs.lemmas.Option.{cond_some, option_and_then_some}
 use Rattle.minidump.specs.declared.MinidumpContext.{MinidumpContext}
 use Rattle.minidump.specs.declared.system_info.PointerWidth.{PointerWidth}
 use Rattle.minidump.specs.Below.System.Cpu.{pointer_bytes}
 use Rattle.stack_walk.specs.declared.frame.FrameTrust.TheVariants.{FramePointer, Link, Scan}
 use Rattle.stack_walk.specs.declared.frame.StackFrame.{StackFrame}
 use Rattle.stack_walk.specs.Addresses.{address_after, unmarked, unsigned}
-use Rattle.stack_walk.specs.Evidence.{HasEvidence, IsShown}
-use Rattle.stack_walk.specs.Climb.{AreCallers}
-use Rattle.stack_walk.specs.Frames.{AreFrames, StackValue, caller_at, caller_of, context_frame, link_candidate, link_in, may_hold_call, pointer_at, record_of, scan}
-use Rattle.stack_walk.specs.Frames.{word_candidate, word_candidates, words_above, words_below}
-use Rattle.stack_walk.specs.Calls.{is_past_headers}
-use Rattle.stack_walk.specs.Link.{IsLinkCandidate}
-use Rattle.stack_walk.specs.Lookups.{call_site, is_code}
+use Rattle.stack_walk.specs.Evidence.{HasEvidence, IsLinkCandidate, IsShown, evidence_address}
+use Rattle.stack_walk.specs.Frames.{AreCallers, AreFrames, StackValue, address_candidate, caller_at, caller_of, context_frame, lacks, link_candidate, link_in}
+use Rattle.stack_walk.specs.Frames.{may_hold_call, pointer_at, record_of, return_at, scan, word_candidate, word_candidates, words_above, words_below}
+use Rattle.stack_walk.specs.Lookups.{call_site, is_code, is_past_headers}
 use Rattle.stack_walk.proofs.FoundLemmas.{All-firsts, all_given, one_more}
-use Rattle.stack_walk.proofs.LinkLemmas.{is_linked}
 
--- the address of the word below the stack pointer of a frame
-abbrev below : StackValue → StackFrame → ℕ
-below s f = f.stack_pointer - unwrap_or (pointer_bytes s.width) 0
+-- ---- the stack
 
--- a caller has the return address that its word holds, whatever reads a word and strips it
-by_record : (width : PointerWidth) (read site : ℕ → Option ℕ) (strip : ℕ → ℕ) (code : ℕ → Bool) (f g : StackFrame)
+-- a caller has the return address that its word holds, whatever reads a word and a return address
+by_record : (width : PointerWidth) (word back site : ℕ → Option ℕ) (code : ℕ → Bool) (f g : StackFrame)
     → option_and_then (λ size. option_and_then (λ address. if nat_lt address f.stack_pointer then None
-    else option_and_then (λ after. option_and_then (λ saved. option_and_then (λ back. option_and_then (λ call. if code call
-    then Some (record { instruction = back; stack_pointer = after; frame_pointer = Some (unmarked saved); trust = FramePointer }) else None)
-    (site back)) (option_map strip (read (address + size)))) (read address)) (address_after width address (2 * size))) (record_of f)) (pointer_bytes width)
+    else option_and_then (λ after. option_and_then (λ saved. option_and_then (λ instruction. option_and_then (λ call. if code call
+    then Some (record { instruction = instruction; stack_pointer = after; frame_pointer = Some (unmarked saved); trust = FramePointer }) else None)
+    (site instruction)) (back (address + size))) (word address)) (address_after width address (2 * size))) (record_of f)) (pointer_bytes width)
     ≡ Some g
-    → g.instruction ≡ strip (unwrap_or (read (g.stack_pointer - unwrap_or (pointer_bytes width) 0)) 0)
+    → option_and_then back (evidence_address width g) ≡ Some g.instruction
 unfolding address_after
-by_record width read site strip code f g e = grind (arith, nat_tests)
-
--- and so has a candidate
-by_word : (width : PointerWidth) (read site : ℕ → Option ℕ) (strip : ℕ → ℕ) (may : ℕ → Bool) (number : ℕ) (f : StackFrame)
-    → option_and_then (λ size. option_and_then (λ after. option_and_then (λ back. option_and_then (λ call. if may call
-    then Some (record { instruction = back; stack_pointer = after; frame_pointer = None; trust = Scan }) else None)
-    (site back)) (option_map strip (read (number * size)))) (address_after width (number * size) size)) (pointer_bytes width)
-    ≡ Some f
-    → f.instruction ≡ strip (unwrap_or (read (f.stack_pointer - unwrap_or (pointer_bytes width) 0)) 0)
-unfolding address_after
-by_word width read site strip may number f e = grind (arith, nat_tests)
+by_record width word back site code f g e = grind (arith, nat_tests)
 
 of_caller : (s : StackValue) (f g : StackFrame) → caller_of s f ≡ Some g → HasEvidence s g
-unfolding caller_at address_after
-of_caller s f g e = record {
-  address = below s g;
-  word = unwrap_or (pointer_at s (below s g)) 0;
-  is_address = grind (arith, nat_tests);
-  stands = grind (arith, nat_tests);
-  is_return = by_record s.width (pointer_at s) (call_site s.cpu) (unsigned s.code_bits) (is_code s.modules) f g e;
-}
+unfolding caller_at
+of_caller s f g e = by_record s.width (pointer_at s) (return_at s) (call_site s.cpu) (is_code s.modules) f g e
+
+-- and so has a candidate
+by_word : (width : PointerWidth) (back site : ℕ → Option ℕ) (may : ℕ → Bool) (address : ℕ) (f : StackFrame)
+    → option_and_then (λ size. option_and_then (λ after. option_and_then (λ instruction. option_and_then (λ call. if may call
+    then Some (record { instruction = instruction; stack_pointer = after; frame_pointer = None; trust = Scan }) else None)
+    (site instruction)) (back address)) (address_after width address size)) (pointer_bytes width)
+    ≡ Some f
+    → option_and_then back (evidence_address width f) ≡ Some f.instruction
+unfolding address_after
+by_word width back site may address f e = grind (arith, nat_tests)
 
 of_candidate : (s : StackValue) (number : ℕ) (f : StackFrame) → word_candidate s number ≡ Some f → HasEvidence s f
-unfolding word_candidate address_after
-of_candidate s number f e = record {
-  address = below s f;
-  word = unwrap_or (pointer_at s (below s f)) 0;
-  is_address = grind (arith, nat_tests);
-  stands = grind (arith, nat_tests);
-  is_return =
-      by_word s.width (pointer_at s) (call_site s.cpu) (unsigned s.code_bits) (λ call. is_past_headers s.modules call && may_hold_call s call) number f e;
-}
+unfolding word_candidate
+of_candidate s number f e = option_and_then_some (λ size. address_candidate s (number * size)) (pointer_bytes s.width) f e (λ size is found.
+    by_word s.width (return_at s) (call_site s.cpu) (λ call. is_past_headers s.modules call && may_hold_call s call) (number * size) f found)
 
 -- a frame of the link register has no evidence in the stack
 none_of_link : (s : StackValue) (f : StackFrame) → HasEvidence s f → f.trust ≡ Link → ⊥
-none_of_link s f evidence trust = grind (arith, evidence.is_address)
+none_of_link s f evidence trust = grind (arith, evidence)
+
+-- ---- the candidate of the link register
+
+pub is_linked : (s : StackValue) (link : Option ℕ) (frames : List StackFrame) (f : StackFrame) → link_candidate s link frames ≡ Some f
+    → IsLinkCandidate s link frames f
+unfolding link_candidate
+is_linked s link frames f e =
+    option_and_then_some _ link f e (λ word is_word of_word. option_and_then_some _ (slice_get frames 0) f of_word (λ first is_first of_first.
+    option_and_then_some _ (call_site s.cpu (unsigned s.code_bits word)) f of_first (λ call is_call of_call.
+    let parts = cond_some _ _ f of_call in
+    let is = and_parts (lacks frames (unsigned s.code_bits word)) _ parts.0 in
+    let may = and_parts (is_code s.modules call) _ is.1 in
+    subst (IsLinkCandidate s link frames) parts.1 (record {
+      first = first;
+      call = call;
+      is_return = rw is_word refl;
+      is_first = is_first;
+      stack_pointer = refl;
+      frame_pointer = refl;
+      trust = refl;
+      is_call = is_call;
+      in_module = may.0;
+      may_hold = may.1;
+      is_other = λ caller second. let other = rw second at is.0 in (λ rules. grind (arith, other), λ same. grind (arith, nat_tests, other));
+    }))))
+
+pub is_found : (s : StackValue) (link : Option ℕ) (frames : List StackFrame) (f : StackFrame) → IsLinkCandidate s link frames f
+    → link_candidate s link frames ≡ Some f
+unfolding link_candidate
+is_found s link frames f is = grind (arith, nat_tests, is.is_other)
+
+-- the scan has it first
+pub first_of_scan : (s : StackValue) (link : Option ℕ) (frames : List StackFrame) (limit : ℕ) (f : StackFrame) → IsLinkCandidate s link frames f
+    → 0 < limit → slice_get (scan s link frames limit) 0 ≡ Some f
+first_of_scan s link frames zero f is some = absurd (omega (arith, some))
+first_of_scan s link frames (suc n) f is some = rw (is_found s link frames f is) refl
 
 -- ---- all candidates
 
@@ -104,9 +124,6 @@ only_link s link frames limit f there =
 
 -- ---- all frames
 
-in_link : (s : StackValue) (c : MinidumpContext) (frames : List StackFrame) (f : StackFrame) → IsLinkCandidate s (link_in c) frames f → IsShown s c f
-in_link s c frames f is = inr (record { word = is.word; trust = is.trust; is_link = is.is_link; is_return = is.is_return })
-
 all_callers : (s : StackValue) (c : MinidumpContext) (f : StackFrame) (gs : List StackFrame) (last : StackFrame) → AreCallers (caller_of s) f gs last
     → All (IsShown s c) gs
 all_callers s c f [] last callers = All-nil (IsShown s c)
@@ -122,4 +139,4 @@ all_evidence s c limit first rest x =
     let same : x.callers ++ candidates ≡ rest = (let whole : first ∷ rest ≡ walk ++ candidates = x.whole in cc) in
     rw (sym same)
     (All-append (IsShown s c) x.callers candidates (all_callers s c (context_frame c) x.callers x.last x.are_callers)
-    (all_candidates (IsShown s c) s (link_in c) walk limit (λ f evidence. inl evidence) (in_link s c walk)))
+    (all_candidates (IsShown s c) s (link_in c) walk limit (λ f evidence. inl evidence) (λ f is. inr (is.trust, is.is_return))))

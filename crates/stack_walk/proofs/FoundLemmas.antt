@@ -1,17 +1,19 @@
 -- What a scan finds: of candidates with one return address the first.
 use Rattle.std.proofs.Common.{◌≡◌, ◌∙◌, ◌⊎◌, inl, inr, ℕ, zero, suc, ◌+◌, ◌-◌, ◌<◌, ◌≤◌, List, [], ◌∷◌, ◌++◌, length, map, take, Bool, true, false, Option, Some, None}
-use Rattle.std.proofs.Common.{refl, ap, append-nil, append_assoc, subst, sym, arith}
+use Rattle.std.proofs.Common.{refl, ap, append-nil, append_assoc, get_or, sym, arith}
 use Rattle.std.specs.Prelude.{All, Contains, ◌≢◌, ◌==◌, ◌||◌, not}
 use Rattle.std.specs.List.{AllPairs, IsDistinct, cons_option, filter, filter_map, fold, list_any, range_with_len}
 use Rattle.std.proofs.lemmas.Bool.{cases_lt}
 use Rattle.std.proofs.lemmas.Bool.Decides.{Decides-eqb, nat_tests}
 use Rattle.std.proofs.lemmas.Grind.{common_steps}
-use Rattle.std.proofs.lemmas.List.{get_or-take, length-take, take-append-le, take-map, take_all}
-use Rattle.std.proofs.lemmas.List.Elements.{All-cons, All-filter, All-head, All-map, All-nil, All-tail, filter-append, filter_map-append, filter_passes}
+use Rattle.std.proofs.lemmas.List.{get_or-map, get_or-take, length-map, length-take, map-id, take-append-le, take_all}
+use Rattle.std.proofs.lemmas.List.Elements.{All-cons, All-filter, All-head, All-nil, All-tail, All-weaker, filter-append, filter_map-append, filter_passes}
 use Rattle.std.proofs.lemmas.List.Filters.{length-filter_both}
+use Rattle.std.proofs.lemmas.List.FromFn.{map-range_with_len_more}
 use Rattle.std.proofs.lemmas.List.Kept.{AllPairs-cons, AllPairs-filter}
 use Rattle.std.proofs.lemmas.Map.Made.{IsDistinct-from_AllPairs}
 use Rattle.std.proofs.lemmas.Map.Views.{any-filter_same}
+use Rattle.stack_walk.specs.declared.frame.FrameTrust.TheVariants.{Link}
 use Rattle.stack_walk.specs.declared.frame.StackFrame.{StackFrame}
 use Rattle.stack_walk.specs.Found.{has_word, up_to}
 use Rattle.stack_walk.specs.Frames.{StackValue, firsts, word_candidate, word_candidates}
@@ -65,33 +67,27 @@ All-firsts P (f ∷ fs) all =
 abbrev pub words_of : List StackFrame → List ℕ
 words_of fs = map (λ (f : StackFrame). f.instruction) fs
 
-words_filter : (p : ℕ → Bool) (fs : List StackFrame) → filter p (words_of fs) ≡ words_of (filter (λ f. p f.instruction) fs)
-words_filter p [] = refl
-words_filter p (f ∷ fs) = grind (arith, words_filter p fs)
-
--- no two numbers are the same
-abbrev AreApart : List ℕ → Type 0
-AreApart words = AllPairs (λ x y. x ≢ y) words
-
-apart : (fs : List StackFrame) → AreApart (words_of (firsts fs))
+-- no two frames have the same
+apart : (fs : List StackFrame) → AllPairs (λ (f g : StackFrame). f.instruction ≢ g.instruction) (firsts fs)
 apart [] = λ i j d lt within. absurd (omega arith)
 apart (f ∷ fs) =
-    let others = filter (differs f) (firsts fs) in
-    let new : ℕ → Bool = λ word. not (f.instruction == word) in
-    AllPairs-cons (λ x y. x ≢ y) f.instruction (words_of others)
-    (All-map (λ word. f.instruction ≢ word) (λ (g : StackFrame). g.instruction) others
-    (λ i d within same. grind (arith, nat_tests, filter_passes (differs f) (firsts fs) i d within)))
-    (subst AreApart (words_filter new (firsts fs)) (AllPairs-filter (λ x y. x ≢ y) new (words_of (firsts fs)) (apart fs)))
+    let Differ : StackFrame → StackFrame → Type 0 = λ g h. g.instruction ≢ h.instruction in
+    AllPairs-cons Differ f (filter (differs f) (firsts fs))
+    (All-weaker (λ g. differs f g ≡ true) (Differ f) (λ g is same. grind (arith, nat_tests)) (filter (differs f) (firsts fs)) (filter_passes (differs f) (firsts fs)))
+    (AllPairs-filter Differ (differs f) (firsts fs) (apart fs))
 
 -- none is there twice
 pub distinct_firsts : (limit : ℕ) (fs : List StackFrame) → IsDistinct ◌==◌ (words_of (take limit (firsts fs)))
 distinct_firsts limit fs =
-    let words = words_of (firsts fs) in
-    let len = length-take limit words in
-    subst (λ (ws : List ℕ). IsDistinct ◌==◌ ws) (take-map (λ (f : StackFrame). f.instruction) limit (firsts fs))
-    (IsDistinct-from_AllPairs Decides-eqb (take limit words) (λ i j d lt within same.
-    apart fs i j d lt (omega (arith, len))
-    (sym (get_or-take limit words i d (omega (arith, len))) ∙ same ∙ get_or-take limit words j d (omega (arith, len)))))
+    let frames = take limit (firsts fs) in
+    let len = length-take limit (firsts fs) in
+    IsDistinct-from_AllPairs Decides-eqb (words_of frames) (λ i j d lt within same.
+    let e : StackFrame = record { instruction = d; stack_pointer = 0; frame_pointer = None; trust = Link } in
+    let few : j < length frames = omega (arith, length-map frames (λ (f : StackFrame). f.instruction)) in
+    let at : (k : ℕ) → k < length frames → get_or (words_of frames) k d ≡ (get_or (firsts fs) k e).instruction =
+    λ k less. get_or-map (λ (f : StackFrame). f.instruction) frames k e d less ∙ ap (λ (f : StackFrame). f.instruction) (get_or-take limit (firsts fs) k e (omega (arith, len)))
+    in
+    apart fs i j e lt (omega (arith, len)) (sym (at i (omega arith)) ∙ same ∙ at j few))
 
 -- and none is left out
 pub word_there : (fs : List StackFrame) (word : ℕ) → has_word fs word ≡ true → Contains (words_of fs) word
@@ -122,46 +118,32 @@ pub one_found : (limit : ℕ) (fs now new : List StackFrame) (o : Option StackFr
     → new ≡ fold (up_to limit) now (cons_option o []) → new ≡ take limit (firsts (fs ++ cons_option o []))
 one_found limit fs now new o was is = is ∙ ap (λ (gs : List StackFrame). fold (up_to limit) gs (cons_option o [])) was ∙ added limit fs o
 
--- as many as the limit stay as they are
-enough_found : (limit : ℕ) (fs gs : List StackFrame) → limit ≤ length (take limit (firsts fs)) → take limit (firsts fs) ≡ take limit (firsts (fs ++ gs))
-enough_found limit fs gs enough =
-    let many : limit ≤ length (firsts fs) = omega (arith, enough, length-take limit (firsts fs)) in
-    rw (firsts_append fs gs) (sym (take-append-le limit (firsts fs) (filter (is_new fs) (firsts gs)) many))
-
-ranges : (a n k : ℕ) → range_with_len a (n + k) ≡ range_with_len a n ++ range_with_len (a + n) k
-ranges a zero k = (let all : 0 + k ≡ k = omega arith in let start : a + 0 ≡ a = omega arith in rw (all, start) refl)
-ranges a (suc n) k =
-    let more : suc n + k ≡ suc (n + k) = omega arith in
-    let next : a + suc n ≡ a + 1 + n = omega arith in
-    rw (more, next) (ap (λ l. a ∷ l) (ranges (a + 1) n k))
-
--- the words after others
-words_append : (s : StackValue) (before : List StackFrame) (a n k : ℕ)
-    → (before ++ word_candidates s (a, n)) ++ word_candidates s (a + n, k) ≡ before ++ word_candidates s (a, n + k)
-words_append s before a n k =
-    append_assoc before (word_candidates s (a, n)) (word_candidates s (a + n, k))
-    ∙ ap (λ (ws : List StackFrame). before ++ ws) (sym (ap (filter_map (word_candidate s)) (ranges a n k)
-    ∙ filter_map-append (word_candidate s) (range_with_len a n) (range_with_len (a + n) k)))
-
 -- the candidates of a word more
+words_next : (s : StackValue) (before : List StackFrame) (a n : ℕ)
+    → (before ++ word_candidates s (a, n)) ++ cons_option (word_candidate s (a + n)) [] ≡ before ++ word_candidates s (a, n + 1)
+words_next s before a n =
+    let range : range_with_len a (n + 1) ≡ range_with_len a n ++ (a + n) ∷ [] = simp map-id at (map-range_with_len_more (λ k. k) a n (a + n) refl) in
+    rw (append_assoc, range, filter_map-append) refl
+
 pub words_more : (s : StackValue) (limit : ℕ) (before : List StackFrame) (a n : ℕ) (now new : List StackFrame) (o : Option StackFrame)
     → o ≡ word_candidate s (a + n) → now ≡ take limit (firsts (before ++ word_candidates s (a, n))) → new ≡ fold (up_to limit) now (cons_option o [])
     → new ≡ take limit (firsts (before ++ word_candidates s (a, n + 1)))
 words_more s limit before a n now new o is was more =
-    let fs = before ++ word_candidates s (a, n) in
-    one_found limit fs now new o was more
-    ∙ ap (λ (p : Option StackFrame). take limit (firsts (fs ++ cons_option p []))) is
-    ∙ ap (λ (gs : List StackFrame). take limit (firsts gs)) (words_append s before a n 1)
+    one_found limit (before ++ word_candidates s (a, n)) now new o was more
+    ∙ ap (λ (gs : List StackFrame). take limit (firsts gs)) (rw is (words_next s before a n))
 
--- and of the words after these, where as many as the limit are found
-pub words_enough : (s : StackValue) (limit : ℕ) (before : List StackFrame) (a n all : ℕ) (now : List StackFrame) → n ≤ all → limit ≤ length now
-    → now ≡ take limit (firsts (before ++ word_candidates s (a, n))) → now ≡ take limit (firsts (before ++ word_candidates s (a, all)))
-words_enough s limit before a n all now within enough was =
-    let whole : n + (all - n) ≡ all = omega arith in
-    was
-    ∙ enough_found limit (before ++ word_candidates s (a, n)) (word_candidates s (a + n, all - n)) (subst (λ (fs : List StackFrame). limit ≤ length fs) was enough)
-    ∙ ap (λ (gs : List StackFrame). take limit (firsts gs)) (words_append s before a n (all - n))
-    ∙ ap (λ m. take limit (firsts (before ++ word_candidates s (a, m)))) whole
+-- as many as the limit stay as they are
+full : (limit : ℕ) (now : List StackFrame) (o : Option StackFrame) → limit ≤ length now → now ≡ fold (up_to limit) now (cons_option o [])
+full limit now None enough = refl
+full limit now (Some f) enough = grind (arith, nat_tests)
+
+pub words_enough : (s : StackValue) (limit : ℕ) (before : List StackFrame) (a n k : ℕ) (now : List StackFrame) → limit ≤ length now
+    → now ≡ take limit (firsts (before ++ word_candidates s (a, n))) → now ≡ take limit (firsts (before ++ word_candidates s (a, n + k)))
+words_enough s limit before a n zero now enough was = (let same : n + 0 ≡ n = omega arith in rw same was)
+words_enough s limit before a n (suc k) now enough was =
+    let next : n + suc k ≡ n + k + 1 = omega arith in
+    let o = word_candidate s (a + (n + k)) in
+    rw next (words_more s limit before a (n + k) now now o refl (words_enough s limit before a n k now enough was) (full limit now o enough))
 
 -- ---- what is given of the numbers of a range
 

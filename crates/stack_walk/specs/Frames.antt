@@ -2,7 +2,7 @@
 -- holds, and the link register and the words of the stack that may be return addresses.
 use Rattle.std.specs.Prelude.{◌≡◌, ℕ, ◌+◌, ◌-◌, ◌*◌, ◌/◌, ◌==◌, max, min, nat_lt, ◌&&◌, not, Bool}
 use Rattle.std.specs.Prelude.{List, [], ◌∷◌, ◌++◌, codes, length, take, slice_get, Option, Some, None}
-use Rattle.std.specs.Prelude.{true, false, if◌then◌else◌, unwrap_or}
+use Rattle.std.specs.Prelude.{zero, suc, true, false, if◌then◌else◌, unwrap_or}
 use Rattle.std.specs.Int.{div_ceil}
 use Rattle.std.specs.List.{cons_option, filter, filter_map, range_with_len}
 use Rattle.std.specs.Option.{option_and_then, option_map, option_map_or}
@@ -26,9 +26,7 @@ use Rattle.stack_walk.specs.declared.frame.FrameTrust.TheVariants.{Context, Cfi,
 use Rattle.stack_walk.specs.declared.frame.StackFrame.{StackFrame}
 use Rattle.stack_walk.specs.declared.stack.Stack.{Stack}
 use Rattle.stack_walk.specs.Addresses.{address_after, unmarked, unsigned}
-use Rattle.stack_walk.specs.Calls.{is_past_headers, may_end_call}
-use Rattle.stack_walk.specs.Climb.{AreCallers}
-use Rattle.stack_walk.specs.Lookups.{call_site, is_code, may_be_run}
+use Rattle.stack_walk.specs.Lookups.{call_site, is_code, is_past_headers, may_be_run, may_end_call}
 
 -- a stack: the region of memory that holds it, if the dump has one, the modules, the memory, what is
 -- known of that, the processor, the width of an address, and how many of the low bits of a return
@@ -110,6 +108,25 @@ abbrev pub link_in : MinidumpContext → Option ℕ
 link_in c = if has_link c.raw then valid_value_in c.valid (registers_of c.raw) (codes "lr")
     else None
 
+-- ---- the callers of a frame of any kind, from each frame to its caller
+
+module _ {F : Type 0} (caller_by : F → Option F) where
+  -- these are the callers of a frame, the innermost first: each is the caller of the one before it.
+  -- The last of the frame and these is `last`, which has no caller
+  abbrev pub AreCallers : F → List F → F → Type 0
+  AreCallers f [] last = (caller_by f ≡ None) × (last ≡ f)
+  AreCallers f (g ∷ gs) last = (caller_by f ≡ Some g) × AreCallers g gs last
+
+  -- the callers of a frame, the innermost first, or as many of them as this number
+  unfoldable pub callers_of : ℕ → F → List F
+  callers_of zero f = []
+  callers_of (suc n) f = option_map_or (λ caller. caller ∷ callers_of n caller) (caller_by f) []
+
+-- the last of a frame and its callers
+abbrev pub outermost : {F : Type 0} → F → List F → F
+outermost f [] = f
+outermost f (caller ∷ callers) = outermost caller callers
+
 -- ---- callers, by frame pointers
 
 -- the frame to which the record at an address returns. A record is two words: the saved frame
@@ -153,8 +170,8 @@ may_hold_call s call = may_be_run s.infos call && may_end_call s.cpu s.memory ca
 
 -- the candidate of the word at an address: the frame that it may be the return address of, if a call
 -- may end before that, past the headers of a kept module. None where no address lies after the word
-abbrev pub candidate_at : StackValue → ℕ → ℕ → Option StackFrame
-candidate_at s size address = option_and_then (λ after. option_and_then
+abbrev pub address_candidate : StackValue → ℕ → Option StackFrame
+address_candidate s address = option_and_then (λ size. option_and_then (λ after. option_and_then
     (λ return_address. option_and_then
     (λ call. if is_past_headers s.modules call && may_hold_call s call
     then Some (record {
@@ -164,43 +181,33 @@ candidate_at s size address = option_and_then (λ after. option_and_then
       trust = Scan;
     })
     else None) (call_site s.cpu return_address)) (return_at s address))
-    (address_after s.width address size)
-
--- the same, where the width of an address is known
-abbrev pub address_candidate : StackValue → ℕ → Option StackFrame
-address_candidate s address =
-    option_and_then (λ size. candidate_at s size address) (pointer_bytes s.width)
+    (address_after s.width address size)) (pointer_bytes s.width)
 
 -- the candidate of an aligned word, by its number: how many words lie below it in the space of
 -- addresses
 unfoldable pub word_candidate : StackValue → ℕ → Option StackFrame
-word_candidate s number = option_and_then (λ size. candidate_at s size (number * size))
-    (pointer_bytes s.width)
+word_candidate s number =
+    option_and_then (λ size. address_candidate s (number * size)) (pointer_bytes s.width)
 
 -- the candidates of aligned words, in their order: of as many as the second number says from the
 -- first on
 abbrev pub word_candidates : StackValue → ℕ × ℕ → List StackFrame
 word_candidates s words = filter_map (word_candidate s) (range_with_len words.0 words.1)
 
--- the number of the first aligned word at or above an address in a region, and at most how many
--- words the region has from there
-abbrev words_in : PointerWidth → UnifiedRegion → ℕ → ℕ × ℕ
-words_in width region from = option_map_or
-    (λ size. (div_ceil (max from region.base_address) size, length region.bytes / size))
-    (pointer_bytes width) (0, 0)
-
--- the same of a stack
+-- the number of the first aligned word of a stack at or above an address, and at most how many words
+-- the stack has from there
 abbrev pub words_from : StackValue → ℕ → ℕ × ℕ
-words_from s from = option_map_or (λ region. words_in s.width region from) s.region (0, 0)
-
--- how many aligned words lie below an address in the space of addresses
-abbrev words_until : PointerWidth → ℕ → ℕ
-words_until width address = option_map_or (λ size. address / size) (pointer_bytes width) 0
+words_from s from = option_map_or (λ region. option_map_or
+    (λ size. (div_ceil (max from region.base_address) size, length region.bytes / size))
+    (pointer_bytes s.width) (0, 0)) s.region (0, 0)
 
 -- the aligned words of a stack from an address on that lie below another
 abbrev pub words_between : StackValue → ℕ → ℕ → ℕ × ℕ
-words_between s from until =
-    let words = words_from s from in (words.0, min words.1 (words_until s.width until - words.0))
+words_between s from until = let words = words_from s from in (
+  words.0,
+  min words.1
+      (option_map_or (λ size. until / size) (pointer_bytes s.width) 0 - words.0),
+)
 
 -- the address of a frame's record, where its caller is by that
 abbrev pub record_by : FrameTrust → StackFrame → Option ℕ

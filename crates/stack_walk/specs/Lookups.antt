@@ -1,12 +1,15 @@
--- What the address of a frame is looked up in: the modules of a process, and what is known of its
--- memory.
-use Rattle.std.specs.Prelude.{ℕ, ◌-◌, ◌%◌, Bool, true, is_some, nat_le, List, Option, Some, None}
+-- What the address of a frame is looked up in, the modules of a process and what is known of its
+-- memory; and which addresses may be returned to: those after a call, where memory may be run.
+use Rattle.std.specs.Prelude.{ℕ, ◌+◌, ◌-◌, ◌/◌, ◌%◌, ◌==◌, ◌&&◌, ◌||◌, Bool, true, false, is_some}
+use Rattle.std.specs.Prelude.{nat_le, nat_lt, length, List, [], ◌∷◌, Option, Some, None, slice_range}
 use Rattle.std.specs.Prelude.{if◌then◌else◌}
 use Rattle.std.specs.List.{enumerate_from}
 use Rattle.std.specs.Option.{option_and_then, option_map, option_map_or}
 use Rattle.minidump.specs.declared.system_info.Cpu.{Cpu}
 use Rattle.minidump.specs.declared.system_info.Cpu.TheVariants as cpu
 use Rattle.minidump.specs.Below.Index.Lookup.{looked_up}
+use Rattle.minidump.specs.Below.MemoryLists.Memory.{range_of_region}
+use Rattle.minidump.specs.Below.MemoryLists.Unified.{UnifiedRegions, unified_regions}
 use Rattle.minidump.specs.Below.MemoryLists.UnifiedInfo.{InfoRegion, range_of_info_region}
 use Rattle.minidump.specs.Below.MemoryLists.UnifiedInfo.{region_is_executable}
 use Rattle.minidump.specs.Below.Modules.Module.{ModuleValue, range_of_module}
@@ -58,3 +61,62 @@ is_code modules address = is_some (looked_up range_of_module modules address)
 abbrev pub may_be_run : List InfoRegion → ℕ → Bool
 may_be_run infos address = option_map_or region_is_executable
     (looked_up range_of_info_region infos address) true
+
+-- ---- addresses after a call
+
+-- an address lies in a kept module, and not in its first page, which has the module's headers
+abbrev pub is_past_headers : List ModuleValue → ℕ → Bool
+is_past_headers modules address =
+    option_map_or (λ offset. nat_le 4096 offset) (module_offset_at modules (Some address)) false
+
+-- how many bytes an operand has, by mode and register of its ModR/M byte and the base of its SIB byte:
+-- the first alone in mode 3; the second where the register is 4; and a displacement of one byte in mode
+-- 1, of four in mode 2 and where the register, or with a SIB byte the base, is 5 (Intel's manual,
+-- volume 2, tables 2-2 and 2-3)
+unfoldable pub operand_length : ℕ → ℕ → ℕ → ℕ
+operand_length mode register base = if mode == 3 then 1
+    else (let sib = if register == 4 then 1 else 0 in
+    let last = if register == 4 then base else register in
+    1 + sib + (if mode == 1 then 1 else if mode == 2 || last == 5 then 4 else 0))
+
+-- a byte and an operand of so many bytes, by its first two, are a call by register or memory: FF with a
+-- ModR/M byte whose bits 3 to 5 are 2
+unfoldable pub calls_by : ℕ → ℕ → ℕ → ℕ → Bool
+calls_by length first modrm sib = first == 255 && (modrm / 8 % 8 == 2
+    && operand_length (modrm / 64) (modrm % 8) (sib % 8) == length)
+
+-- the bytes before an address end with a call of x86 or x86-64: E8 with a distance; FF /2 with its
+-- operand, in two to seven bytes; or 9A with a far address
+unfoldable pub ends_x86_call : List ℕ → Bool
+ends_x86_call (b7 ∷ b6 ∷ b5 ∷ b4 ∷ b3 ∷ b2 ∷ b1 ∷ []) =
+    b5 == 232 || (calls_by 1 b2 b1 0 || (calls_by 2 b3 b2 b1 || (calls_by 3 b4 b3 b2
+    || (calls_by 5 b6 b5 b4 || (calls_by 6 b7 b6 b5 || b7 == 154)))))
+ends_x86_call _ = false
+
+-- the same of ARM64: BL, or BLR in each of its forms, an instruction of four bytes, the lowest first
+unfoldable pub ends_arm64_call : List ℕ → Bool
+ends_arm64_call (b7 ∷ b6 ∷ b5 ∷ b4 ∷ b3 ∷ b2 ∷ b1 ∷ []) =
+    b1 / 4 == 37 || ((b1 == 214 || b1 == 215) && (b2 == 63 && nat_lt b3 16))
+ends_arm64_call _ = false
+
+-- the same of a processor; of others it isn't known, so that they may
+abbrev pub ends_call : Cpu → List ℕ → Bool
+ends_call cpu.X86 bytes = ends_x86_call bytes
+ends_call cpu.X86_64 bytes = ends_x86_call bytes
+ends_call cpu.Arm64 bytes = ends_arm64_call bytes
+ends_call _ bytes = true
+
+-- the seven bytes of which the last is at an address, if the kept region of the memory that contains
+-- it has them
+abbrev pub bytes_until : UnifiedRegions → ℕ → Option (List ℕ)
+bytes_until memory address = option_and_then
+    (λ region. let offset = address - region.base_address in
+    if nat_le 6 offset && nat_lt offset (length region.bytes)
+    then Some (slice_range region.bytes (offset - 6) (offset + 1)) else None)
+    (looked_up range_of_region (unified_regions memory) address)
+
+-- whether a call ends with the byte at an address, by the dump's memory: also where that doesn't
+-- have the bytes
+abbrev pub may_end_call : Cpu → UnifiedRegions → ℕ → Bool
+may_end_call processor memory address =
+    option_map_or (ends_call processor) (bytes_until memory address) true

@@ -3,8 +3,7 @@ ghost use Rattle.minidump.specs.Below.Index.Digits.{digits};
 ghost use Rattle.minidump.specs.Below.Modules.Module.{module_of};
 ghost use Rattle.minidump.specs.Below.Modules.ModuleList.{module_list_of};
 ghost use Rattle.stack_walk.specs.Addresses.{address_after, code_bits, is_address, last_code};
-ghost use Rattle.stack_walk.specs.Addresses.{is_in_upper_half, last_of_module, least_bits};
-ghost use Rattle.stack_walk.specs.Addresses.{unmarked};
+ghost use Rattle.stack_walk.specs.Addresses.{last_of_module, least_bits, unmarked};
 
 use minidump::system_info::{Cpu, Os, PointerWidth};
 use minidump::{MinidumpModule, MinidumpModuleList, Region};
@@ -35,6 +34,7 @@ fn least_bits(os: Os) -> u32
 }
 
 // Returns how many binary digits a number has.
+#[tactic(auto, using(crate::proofs::AddressLemmas::digits_left))]
 fn digits_of(number: u64) -> u32
     ensures { result ≡ digits number }
 {
@@ -74,13 +74,6 @@ pub fn is_address(width: PointerWidth, number: u64) -> bool
     }
 }
 
-// Tells whether a word is an address of the upper half of those of ARM64, the kernel's.
-pub(crate) fn is_in_upper_half(word: u64) -> bool
-    ensures { result ≡ is_in_upper_half word }
-{
-    word / (1 << 55) % 2 == 1
-}
-
 // Returns a frame pointer without the mark of Swift: bit 60, if it is the only one of the four
 // highest that is set.
 pub(crate) fn unmarked(word: u64) -> u64
@@ -100,9 +93,5 @@ pub(crate) fn address_after(width: PointerWidth, address: u64, size: u64) -> Opt
     ensures sum { IfSome result (λ after. after ≡ address + size) }
 {
     let after = address.checked_add(size)?;
-    if is_address(width, after) {
-        Some(after)
-    } else {
-        None
-    }
+    is_address(width, after).then_some(after)
 }

@@ -1,20 +1,21 @@
 ghost use Rattle.std.specs.Prelude.{◌≡◌};
 ghost use Rattle.std.specs.Option.{option_copied};
 ghost use Rattle.minidump.specs.Below.MemoryLists.Unified.{unified_list};
-ghost use Rattle.stack_walk.specs.Calls.{bytes_until, calls_by, ends_arm64_call, ends_call};
-ghost use Rattle.stack_walk.specs.Calls.{ends_x86_call, may_end_call, operand_length};
+ghost use Rattle.stack_walk.specs.Lookups.{bytes_until, calls_by, ends_arm64_call, ends_x86_call};
+ghost use Rattle.stack_walk.specs.Lookups.{may_end_call, operand_length};
 
 use minidump::UnifiedMemoryList;
 use minidump::system_info::Cpu;
 
 // Tells whether a call ends with the byte at an address, by the dump's memory: also where that
-// doesn't have the bytes.
+// doesn't have the bytes, or the processor's calls are not known.
 pub(crate) fn may_end_call(cpu: Cpu, memory: &UnifiedMemoryList<'_>, address: u64) -> bool
     ensures { result ≡ may_end_call cpu (unified_list memory.now) address }
 {
-    match bytes_until(memory, address) {
-        Some(bytes) => ends_call(cpu, bytes),
-        None => true,
+    match (cpu, bytes_until(memory, address)) {
+        (Cpu::X86 | Cpu::X86_64, Some(bytes)) => ends_x86_call(bytes),
+        (Cpu::Arm64, Some(bytes)) => ends_arm64_call(bytes),
+        _ => true,
     }
 }
 
@@ -33,19 +34,8 @@ fn bytes_until<'l>(memory: &'l UnifiedMemoryList<'_>, address: u64) -> Option<&'
     }
 }
 
-// Tells whether a call ends with bytes, or the processor's calls are not known.
-fn ends_call(cpu: Cpu, bytes: &[u8]) -> bool
-    ensures { result ≡ ends_call cpu bytes.now }
-{
-    match cpu {
-        Cpu::X86 | Cpu::X86_64 => ends_x86_call(bytes),
-        Cpu::Arm64 => ends_arm64_call(bytes),
-        _ => true,
-    }
-}
-
 // Tells whether bytes end with a call of x86 or x86-64.
-#[tactic(auto, unfolding(crate::specs::Calls::ends_x86_call))]
+#[tactic(auto, unfolding(crate::specs::Lookups::ends_x86_call))]
 fn ends_x86_call(bytes: &[u8]) -> bool
     ensures { result ≡ ends_x86_call bytes.now }
 {
@@ -65,7 +55,7 @@ fn ends_x86_call(bytes: &[u8]) -> bool
 
 // Tells whether a byte and an operand of so many bytes are a call by register or memory, FF /2: the
 // operand by its first two bytes.
-#[tactic(auto, unfolding(crate::specs::Calls::calls_by))]
+#[tactic(auto, unfolding(crate::specs::Lookups::calls_by))]
 fn calls_by(length: u8, first: u8, modrm: u8, sib: u8) -> bool
     ensures { result ≡ calls_by length first modrm sib }
 {
@@ -74,7 +64,7 @@ fn calls_by(length: u8, first: u8, modrm: u8, sib: u8) -> bool
 
 // Returns how many bytes an operand has, by mode and register of its ModR/M byte, and the base of
 // its SIB byte.
-#[tactic(auto, unfolding(crate::specs::Calls::operand_length))]
+#[tactic(auto, unfolding(crate::specs::Lookups::operand_length))]
 fn operand_length(mode: u8, register: u8, base: u8) -> u8
     ensures { result ≡ operand_length mode register base }
 {
@@ -91,7 +81,7 @@ fn operand_length(mode: u8, register: u8, base: u8) -> u8
 }
 
 // Tells whether bytes end with a call of ARM64.
-#[tactic(auto, unfolding(crate::specs::Calls::ends_arm64_call))]
+#[tactic(auto, unfolding(crate::specs::Lookups::ends_arm64_call))]
 fn ends_arm64_call(bytes: &[u8]) -> bool
     ensures { result ≡ ends_arm64_call bytes.now }
 {

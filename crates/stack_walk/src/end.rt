@@ -1,6 +1,6 @@
 ghost use Rattle.std.specs.Prelude.{◌≡◌};
 ghost use Rattle.stack_walk.specs.Frames.{stack_of};
-ghost use Rattle.stack_walk.specs.WalkEnd.{has_record, walk_end};
+ghost use Rattle.stack_walk.specs.Walk.{has_record, walk_end};
 
 use crate::addresses::address_after;
 use crate::stack::record_of;

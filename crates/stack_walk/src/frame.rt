@@ -1,13 +1,13 @@
-ghost use Rattle.std.specs.Prelude.{◌≡◌};
+ghost use Rattle.std.specs.Prelude.{◌≡◌, Some};
 ghost use Rattle.std.specs.Option.{option_copied, option_map};
 ghost use Rattle.minidump.specs.Below.Modules.Module.{module_of};
 ghost use Rattle.minidump.specs.Below.Modules.ModuleList.{module_list_of};
 ghost use Rattle.stack_walk.specs.Evidence.{evidence_address};
-ghost use Rattle.stack_walk.specs.Lookups.{lookup_address, module_at, module_offset_at};
+ghost use Rattle.stack_walk.specs.Lookups.{call_site, is_code, lookup_address, module_at};
+ghost use Rattle.stack_walk.specs.Lookups.{module_offset_at, module_place};
 
-use crate::lookups::{call_site, offset_at};
 use minidump::system_info::{Cpu, PointerWidth};
-use minidump::{MinidumpModule, MinidumpModuleList};
+use minidump::{MinidumpModule, MinidumpModuleList, Module};
 
 /// How a frame was found.
 #[derive(Clone, Copy, PartialEq, Eq)]
@@ -78,8 +78,7 @@ impl StackFrame {
         ensures { result ≡ module_offset_at (module_list_of modules.now)
             (lookup_address cpu self.now) }
     {
-        let address = self.lookup_address(cpu)?;
-        offset_at(modules, address)
+        offset_at(modules, self.lookup_address(cpu)?)
     }
 
     /// Returns the address in the stack at which the frame's return address stands, that of the
@@ -97,4 +96,41 @@ impl StackFrame {
             }
         }
     }
+}
+
+// ---- what an address is looked up in
+
+// Returns the address before the one that a return address returns to, which lies in the call. On
+// ARM that lacks bit 0 of the return address.
+pub(crate) fn call_site(cpu: Cpu, address: u64) -> Option<u64>
+    ensures { result ≡ call_site cpu address }
+{
+    match cpu {
+        Cpu::Arm => (address - address % 2).checked_sub(1),
+        _ => address.checked_sub(1),
+    }
+}
+
+// Returns the offset of an address in the kept module that contains it.
+pub(crate) fn offset_at(modules: &MinidumpModuleList, address: u64) -> Option<u64>
+    ensures { result ≡ module_offset_at (module_list_of modules.now) (Some address) }
+{
+    let module = modules.module_at_address(address)?;
+    Some(address - module.raw.base_of_image)
+}
+
+/// Returns the index in the list of modules of the kept one that contains an address, and the
+/// offset of the address from its base. Returns `None` if no kept module contains the address.
+pub fn module_place(modules: &MinidumpModuleList, address: u64) -> Option<(usize, u64)>
+    ensures { result ≡ module_place (module_list_of modules.now) address }
+{
+    let (index, module) = modules.numbered_module_at_address(address)?;
+    Some((index, address.saturating_sub(module.base_address())))
+}
+
+/// Tells whether a kept module contains an address.
+pub fn is_code(modules: &MinidumpModuleList, address: u64) -> bool
+    ensures { result ≡ is_code (module_list_of modules.now) address }
+{
+    modules.module_at_address(address).is_some()
 }

@@ -48,8 +48,6 @@ mod calls;
 mod end;
 mod frame;
 pub mod laws;
-mod link;
-mod lookups;
 mod scan;
 mod stack;
 mod thread;
@@ -57,10 +55,9 @@ mod walk;
 
 pub use addresses::{code_bits, is_address};
 pub use end::WalkEnd;
-pub use frame::{FrameTrust, StackFrame};
-pub use link::link_of;
-pub use lookups::{is_code, module_place};
+pub use frame::{FrameTrust, StackFrame, is_code, module_place};
 use minidump::{Error, MinidumpContext};
+pub use scan::link_of;
 pub use stack::Stack;
 use std::alloc::Global;
 pub use thread::{Process, thread_frames, walk_context, walk_thread};
@@ -97,6 +94,7 @@ pub use walk::{Walk, walk_stack};
 /// a return address, a word of the stack and the link register are read without the bits above those
 /// of [`code_bits`], and the frame has the address that is left. One whose bit 55 is set is read as it
 /// is: no address of a process has that bit. The only error is `OutOfMemory`.
+#[tactic(auto, using(crate::proofs::CallerLemmas::frames_by))]
 pub fn frames(
     alloc: Global,
     stack: &Stack<'_, '_>,

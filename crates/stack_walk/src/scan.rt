@@ -1,20 +1,20 @@
-//! The candidates of a walk.
+//! The candidates of a walk: the link register and words of the stack.
 ghost use Rattle.std.specs.Prelude.{◌≡◌, ◌+◌, ◌++◌, [], List, IfOk, OnOk};
 ghost use Rattle.std.specs.List.{cons_option, fold};
 ghost use Rattle.stack_walk.specs.Found.{IsFound, IsSeen, up_to};
-ghost use Rattle.stack_walk.specs.Frames.{address_candidate, candidate_at, may_hold_call};
-ghost use Rattle.stack_walk.specs.Frames.{scan, stack_of, word_candidate};
+ghost use Rattle.stack_walk.specs.Frames.{address_candidate, lacks, link_candidate, link_in};
+ghost use Rattle.stack_walk.specs.Frames.{may_hold_call, scan, stack_of, word_candidate};
 ghost use Rattle.stack_walk.specs.Frames.{word_candidates, words_above, words_below};
 ghost use Rattle.stack_walk.specs.Frames.{words_between, words_from};
 ghost use Rattle.stack_walk.specs.declared.frame.StackFrame.{StackFrame};
 
 use crate::addresses::address_after;
 use crate::calls::may_end_call;
-use crate::link::link_candidate;
-use crate::lookups::{call_site, may_be_run, offset_at};
+use crate::frame::{call_site, is_code, offset_at};
 use crate::stack::record_of;
 use crate::{FrameTrust, Stack, StackFrame};
 use minidump::system_info::PointerWidth;
+use minidump::{MinidumpContext, MinidumpRawContext};
 use std::alloc::{AllocError, Global};
 use std::collections::BTreeSet;
 
@@ -24,8 +24,28 @@ impl Stack<'_, '_> {
     pub fn candidate_at(&self, address: u64) -> Option<StackFrame>
         ensures { result ≡ address_candidate (stack_of self.now) address }
     {
-        let size = self.width.size_in_bytes()?;
-        candidate_of(self, size as u64, address)
+        let size = self.width.size_in_bytes()? as u64;
+        let stack_pointer = address_after(self.width, address, size)?;
+        let instruction = self.return_address(self.word_at(address)?);
+        let call = call_site(self.cpu, instruction)?;
+        let offset = offset_at(self.modules, call)?;
+        (offset >= 4096 && may_hold_call(self, call)).then_some(StackFrame {
+            instruction,
+            stack_pointer,
+            frame_pointer: None,
+            trust: FrameTrust::Scan,
+        })
+    }
+
+    /// Returns the candidate of the aligned word that comes so many words after one, by the number of
+    /// that: how many words lie below it in the space of addresses.
+    #[tactic(auto, using(crate::proofs::AddressLemmas::none_after), unfolding(crate::specs::Frames::word_candidate))]
+    pub fn word_candidate(&self, first: u64, index: usize) -> Option<StackFrame>
+        ensures { result ≡ word_candidate (stack_of self.now) (first + index) }
+    {
+        let size = self.width.size_in_bytes()? as u64;
+        let number = first.checked_add(index as u64)?;
+        self.candidate_at(number.checked_mul(size)?)
     }
 
     /// Returns at most `limit` candidates of a walk with these frames, from a context with this link
@@ -78,7 +98,7 @@ impl Found {
             if self.frames.len() >= limit {
                 return Ok(());
             }
-            self.add(word_candidate(stack, first, index), limit)?;
+            self.add(stack.word_candidate(first, index), limit)?;
         }
         Ok(())
     }
@@ -158,42 +178,62 @@ fn words_from(stack: &Stack<'_, '_>, from: u64) -> (u64, usize)
     }
 }
 
-// ---- the candidate of a word
+// ---- the candidate of the link register
 
-// Returns the candidate of the aligned word that so many words come before.
-#[tactic(auto, using(crate::proofs::AddressLemmas::none_after), unfolding(crate::specs::Frames::word_candidate))]
-fn word_candidate(stack: &Stack<'_, '_>, first: u64, index: usize) -> Option<StackFrame>
-    ensures { result ≡ word_candidate (stack_of stack.now) (first + index) }
+/// Returns the link register of a context, the return address of a function that hasn't saved it.
+/// Returns `None` if it isn't valid, and for x86 and x86-64, which have none.
+pub fn link_of(context: &MinidumpContext) -> Option<u64>
+    ensures { result ≡ link_in context.now }
 {
-    let size = stack.width.size_in_bytes()? as u64;
-    let number = first.checked_add(index as u64)?;
-    candidate_of(stack, size, number.checked_mul(size)?)
-}
-
-// Returns the candidate of the word at an address, if it may be a return address.
-fn candidate_of(stack: &Stack<'_, '_>, size: u64, address: u64) -> Option<StackFrame>
-    ensures { result ≡ candidate_at (stack_of stack.now) size address }
-{
-    let stack_pointer = address_after(stack.width, address, size)?;
-    let instruction = stack.return_at(address)?;
-    let call = call_site(stack.cpu, instruction)?;
-    let offset = offset_at(stack.modules, call)?;
-    if offset >= 4096 && may_hold_call(stack, call) {
-        Some(StackFrame {
-            instruction,
-            stack_pointer,
-            frame_pointer: None,
-            trust: FrameTrust::Scan,
-        })
-    } else {
-        None
+    match &context.raw {
+        MinidumpRawContext::X86(_) | MinidumpRawContext::Amd64(_) => None,
+        MinidumpRawContext::Arm(_)
+        | MinidumpRawContext::Arm64(_)
+        | MinidumpRawContext::OldArm64(_) => context.get_register("lr"),
     }
 }
 
+// Returns the candidate of the link register of a walk's context, if it has one: the frame that the
+// first one may return to, where the walk lacks it.
+#[tactic(auto, unfolding(crate::specs::Frames::link_candidate))]
+fn link_candidate(
+    stack: &Stack<'_, '_>,
+    link: Option<u64>,
+    frames: &[StackFrame],
+) -> Option<StackFrame>
+    ensures { result ≡ link_candidate (stack_of stack.now) link frames.now }
+{
+    let instruction = stack.return_address(link?);
+    let first = frames.first()?;
+    let call = call_site(stack.cpu, instruction)?;
+    let is_candidate = lacks(frames, instruction)
+        && is_code(stack.modules, call)
+        && may_hold_call(stack, call);
+    is_candidate.then_some(StackFrame {
+        instruction,
+        stack_pointer: first.stack_pointer,
+        frame_pointer: first.frame_pointer,
+        trust: FrameTrust::Link,
+    })
+}
+
+// Tells whether a walk lacks the frame with a return address after its first frame: whether the
+// caller of that, if there is one, isn't found by rules, and has another return address.
+fn lacks(frames: &[StackFrame], address: u64) -> bool
+    ensures { result ≡ lacks frames.now address }
+{
+    frames.get(1).map_or(true, |caller| {
+        !matches!(caller.trust, FrameTrust::Cfi) && caller.instruction != address
+    })
+}
+
+// ---- calls
+
 // Tells whether the last byte of a call may stand at an address: whether the memory there may be
 // run, and a call ends there, as far as is known of both.
-pub(crate) fn may_hold_call(stack: &Stack<'_, '_>, call: u64) -> bool
+fn may_hold_call(stack: &Stack<'_, '_>, call: u64) -> bool
     ensures { result ≡ may_hold_call (stack_of stack.now) call }
 {
-    may_be_run(stack.infos, call) && may_end_call(stack.cpu, stack.code, call)
+    let info = stack.infos.memory_info_at_address(call);
+    info.map_or(true, |info| info.is_executable()) && may_end_call(stack.cpu, stack.code, call)
 }

@@ -1,10 +1,9 @@
 ghost use Rattle.std.specs.Prelude.{◌≡◌};
 ghost use Rattle.stack_walk.specs.Addresses.{unsigned};
-ghost use Rattle.stack_walk.specs.Frames.{caller_at, caller_of, pointer_at, record_of, return_at};
-ghost use Rattle.stack_walk.specs.Frames.{stack_of};
+ghost use Rattle.stack_walk.specs.Frames.{caller_of, pointer_at, record_of, stack_of};
 
-use crate::addresses::{address_after, is_in_upper_half, unmarked};
-use crate::lookups::{call_site, is_code};
+use crate::addresses::{address_after, unmarked};
+use crate::frame::{call_site, is_code};
 use crate::{FrameTrust, StackFrame};
 use minidump::system_info::{Cpu, PointerWidth};
 use minidump::{MinidumpModuleList, UnifiedMemory, UnifiedMemoryInfoList, UnifiedMemoryList};
@@ -54,30 +53,32 @@ impl Stack<'_, '_> {
         ensures { result ≡ unsigned (stack_of self.now).code_bits word }
     {
         match 1u64.checked_shl(self.code_bits) {
-            Some(limit) if !is_in_upper_half(word) => word % limit,
+            Some(limit) if word / (1 << 55) % 2 != 1 => word % limit,
             _ => word,
         }
     }
 
-    // Returns the return address that the stack holds at an address.
-    pub(crate) fn return_at(&self, address: u64) -> Option<u64>
-        ensures { result ≡ return_at (stack_of self.now) address }
-    {
-        let word = self.word_at(address)?;
-        Some(self.return_address(word))
-    }
-
     /// Returns the caller of a frame by its frame pointer, or `None` if that leads to no record, or
     /// the return address there lies in no kept module.
+    #[tactic(auto, using(crate::proofs::AddressLemmas::none_after), unfolding(crate::specs::Frames::caller_at))]
     pub fn caller_of(&self, frame: &StackFrame) -> Option<StackFrame>
         ensures { result ≡ caller_of (stack_of self.now) frame.now }
     {
-        let size = self.width.size_in_bytes()?;
+        let size = self.width.size_in_bytes()? as u64;
         let address = record_of(frame)?;
         if address < frame.stack_pointer {
             return None;
         }
-        caller_at(self, size as u64, address)
+        let stack_pointer = address_after(self.width, address, size.checked_mul(2)?)?;
+        let saved = self.word_at(address)?;
+        let instruction = self.return_address(self.word_at(address + size)?);
+        let call = call_site(self.cpu, instruction)?;
+        is_code(self.modules, call).then_some(StackFrame {
+            instruction,
+            stack_pointer,
+            frame_pointer: Some(unmarked(saved)),
+            trust: FrameTrust::FramePointer,
+        })
     }
 }
 
@@ -86,24 +87,4 @@ pub(crate) fn record_of(frame: &StackFrame) -> Option<u64>
     ensures { result ≡ record_of frame.now }
 {
     Some(unmarked(frame.frame_pointer?))
-}
-
-// Returns the frame to which the record at an address returns.
-#[tactic(auto, using(crate::proofs::AddressLemmas::none_after), unfolding(crate::specs::Frames::caller_at))]
-fn caller_at(stack: &Stack<'_, '_>, size: u64, address: u64) -> Option<StackFrame>
-    ensures { result ≡ caller_at (stack_of stack.now) size address }
-{
-    let stack_pointer = address_after(stack.width, address, size.checked_mul(2)?)?;
-    let saved = stack.word_at(address)?;
-    let instruction = stack.return_at(address + size)?;
-    if is_code(stack.modules, call_site(stack.cpu, instruction)?) {
-        Some(StackFrame {
-            instruction,
-            stack_pointer,
-            frame_pointer: Some(unmarked(saved)),
-            trust: FrameTrust::FramePointer,
-        })
-    } else {
-        None
-    }
 }

@@ -5,9 +5,8 @@ ghost use Rattle.minidump.specs.Below.MemoryLists.Unified.{unified_list, unified
 ghost use Rattle.minidump.specs.Thread.{thread_of};
 ghost use Rattle.stack_walk.specs.Frames as walked;
 ghost use Rattle.stack_walk.specs.Frames.{stack_pointer_in};
-ghost use Rattle.stack_walk.specs.Threads.{exception_context, holds, process_of, stack_in};
-ghost use Rattle.stack_walk.specs.Threads.{thread_context, thread_frames_in, thread_stack};
-ghost use Rattle.stack_walk.specs.Threads.{thread_walk_in};
+ghost use Rattle.stack_walk.specs.Threads.{process_of, stack_in, thread_context, thread_frames_in};
+ghost use Rattle.stack_walk.specs.Threads.{thread_stack, thread_walk_in};
 ghost use Rattle.stack_walk.specs.Walk.{walk_in, walk_of};
 
 use crate::{Stack, StackFrame, Walk, walk_stack};
@@ -88,36 +87,14 @@ fn thread_context(process: &Process<'_, '_>, thread: &MinidumpThread<'_>) -> Opt
         (thread_of thread.now) }
     ensures valid { IfSome result (λ c. c.valid ≡ All) }
 {
-    match exception_context(process, thread.raw.thread_id) {
-        Some(context) => Some(context),
-        None => thread.context(process.system, None),
+    if let Some(exception) = process.exception {
+        if exception.thread_id == thread.raw.thread_id {
+            if let Some(context) = exception.context(process.system, None) {
+                return Some(context);
+            }
+        }
     }
-}
-
-// Returns the context of the exception, if it happened on the thread with an id.
-fn exception_context(process: &Process<'_, '_>, id: u32) -> Option<MinidumpContext>
-    ensures raw { option_map (λ c. c.raw) result ≡ exception_context (process_of process.now) id }
-    ensures valid { IfSome result (λ c. c.valid ≡ All) }
-{
-    let exception = process.exception?;
-    if exception.thread_id == id {
-        exception.context(process.system, None)
-    } else {
-        None
-    }
-}
-
-// Tells whether a region holds the byte at an address.
-fn holds(region: Option<UnifiedMemory<'_, '_>>, address: u64) -> bool
-    ensures { result ≡ holds address (option_map unified_region region.entry) }
-{
-    let Some(region) = region else {
-        return false;
-    };
-    match address.checked_sub(region.base_address()) {
-        Some(offset) => offset < region.bytes().len() as u64,
-        None => false,
-    }
+    thread.context(process.system, None)
 }
 
 // Returns the memory of the stack of a thread whose context has this stack pointer.
@@ -130,8 +107,11 @@ fn stack_memory<'l, 'a>(
         (thread_of thread.now) stack_pointer }
 {
     let own = thread.stack_memory(memory);
-    if holds(own, stack_pointer) {
-        return own;
+    if let Some(region) = own {
+        let base = region.base_address();
+        if base <= stack_pointer && stack_pointer - base < region.bytes().len() as u64 {
+            return own;
+        }
     }
     match memory.memory_at_address(stack_pointer) {
         Some(found) => Some(found),

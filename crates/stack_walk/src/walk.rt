@@ -1,6 +1,5 @@
 ghost use Rattle.std.specs.Prelude.{◌≡◌, ◌∷◌, IfOk, IsOkUnless};
-ghost use Rattle.stack_walk.specs.Frames.{context_frame, frame_register, stack_of};
-ghost use Rattle.stack_walk.specs.Climb.{outermost};
+ghost use Rattle.stack_walk.specs.Frames.{context_frame, frame_register, outermost, stack_of};
 ghost use Rattle.stack_walk.specs.Walk.{all_frames, callers_in, walk_in, walk_of};
 
 use crate::{FrameTrust, Stack, StackFrame, WalkEnd, link_of};

@@ -5,20 +5,17 @@ use Rattle.std.specs.Option.{option_and_then, option_map, option_map_or}
 use Rattle.minidump.specs.Below.Modules.Module.{ModuleValue}
 use Rattle.minidump.specs.Below.System.Cpu.{pointer_bytes}
 use Rattle.stack_walk.specs.declared.frame.StackFrame.{StackFrame}
-use Rattle.stack_walk.specs.Climb.{AreCallers, outermost}
-use Rattle.stack_walk.specs.Frames.{word_candidates}
+use Rattle.stack_walk.specs.Frames.{AreCallers, outermost, word_candidates}
 use Rattle.stack_walk.specs.Frames.{caller_of as pointer_caller}
 use Rattle.stack_walk.specs.Lookups.{lookup_address}
 use Rattle.stack_walk.specs.Walk.{callers_in as pointer_callers}
 use Rattle.stack_walk.proofs.CallerLemmas.{callers_are}
 use Rattle.breakpad_symbols.specs.SymbolFile.{SymbolsValue}
-use Rattle.symbol_walk.specs.Frames.{HaveNone}
 use Rattle.symbol_walk.specs.Rules.{rules_at}
-use Rattle.symbol_walk.specs.Scan.{in_function, next_words, restart_of, restarts}
-use Rattle.symbol_walk.specs.Symbols.{symbols_at}
+use Rattle.symbol_walk.specs.Symbols.{HaveNone, symbols_at}
 use Rattle.symbol_walk.specs.Unwinder.{FrameValue, UnwinderValue, pointer_frame}
-use Rattle.symbol_walk.specs.Walk.{caller_by_rules, caller_of, callers_in, end_by_rules, plain_frames}
-use Rattle.symbol_walk.proofs.UpLemmas.{are_callers}
+use Rattle.symbol_walk.specs.Walk.{caller_by_rules, caller_of, callers_in, end_by_rules, in_function, next_words, plain_frames, restart_of, restarts}
+use Rattle.symbol_walk.proofs.ReachLemmas.{are_callers}
 
 no_symbols : (modules : List ModuleValue) (symbols : List (Option SymbolsValue)) (address : ℕ) → HaveNone symbols → symbols_at modules symbols address ≡ None
 unfolding symbols_at

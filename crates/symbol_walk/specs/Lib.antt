@@ -3,6 +3,4 @@ pub mod Registers
 pub mod Symbols
 pub mod Unwinder
 pub mod Rules
-pub mod Scan
 pub mod Walk
-pub mod Frames

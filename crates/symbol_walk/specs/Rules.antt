@@ -1,7 +1,8 @@
 -- The caller of a frame by the rules of its module's symbols.
-use Rattle.std.specs.Prelude.{ℕ, ◌+◌, ◌==◌, ◌&&◌, Bool, true, false, nat_le, nat_lt, List, length}
+use Rattle.std.specs.Prelude.{◌≡◌, ℕ, ◌+◌, ◌==◌, ◌&&◌, Bool, true, false, nat_le, nat_lt, List, length}
 use Rattle.std.specs.Prelude.{codes, map, is_none, Option, Some, None, if◌then◌else◌}
 use Rattle.std.specs.Option.{option_and_then, option_map, option_map_or}
+use Rattle.minidump.specs.Below.Contexts.Context.{registers_of, valid_value_in}
 use Rattle.minidump.specs.declared.system_info.PointerWidth.{PointerWidth}
 use Rattle.minidump.specs.declared.system_info.PointerWidth.TheVariants.{Bits32, Bits64, Unknown}
 use Rattle.stack_walk.specs.declared.frame.FrameTrust.{FrameTrust}
@@ -14,6 +15,8 @@ use Rattle.breakpad_symbols.specs.AddressWidth.{bits_of}
 use Rattle.breakpad_symbols.specs.Caller.{caller_register_at, frame_address_at}
 use Rattle.breakpad_symbols.specs.Cfi.{CfiValue, cfi_of, rule_at}
 use Rattle.breakpad_symbols.specs.Expression.{StateValue, value_of}
+use Rattle.symbol_walk.specs.declared.registers.RegisterSource.{RegisterSource}
+use Rattle.symbol_walk.specs.declared.registers.RegisterSource.TheVariants as source
 use Rattle.symbol_walk.specs.declared.registers.RegisterRole.{RegisterRole}
 use Rattle.symbol_walk.specs.declared.registers.RegisterRole.TheVariants.{InstructionPointer}
 use Rattle.symbol_walk.specs.declared.registers.RegisterRole.TheVariants.{StackPointer}
@@ -21,14 +24,14 @@ use Rattle.symbol_walk.specs.declared.registers.RegisterRole.TheVariants.{FrameP
 use Rattle.symbol_walk.specs.declared.registers.RegisterRole.TheVariants.{Saved, Scratch}
 use Rattle.symbol_walk.specs.declared.rules.Return.{Return}
 use Rattle.symbol_walk.specs.declared.rules.Rules.{Rules}
-use Rattle.symbol_walk.specs.declared.state.FrameState.{FrameState}
+use Rattle.symbol_walk.specs.declared.rules.FrameState.{FrameState}
 use Rattle.symbol_walk.specs.declared.walk.SymbolWalkEnd.{SymbolWalkEnd}
 use Rattle.symbol_walk.specs.declared.walk.SymbolWalkEnd.TheVariants.{NoReturnRule}
 use Rattle.symbol_walk.specs.declared.walk.SymbolWalkEnd.TheVariants.{ZeroReturnAddress}
 use Rattle.symbol_walk.specs.Registers.{RegisterRow, known_by, known_frame_pointer, known_of}
 use Rattle.symbol_walk.specs.Registers.{known_stack_pointer, known_value, labelled_value, row_of}
 use Rattle.symbol_walk.specs.Symbols.{cfi_at, symbols_at}
-use Rattle.symbol_walk.specs.Unwinder.{FrameValue, UnwinderValue}
+use Rattle.symbol_walk.specs.Unwinder.{FrameValue, UnwinderValue, pointer_value}
 
 -- ---- the rules of a frame
 
@@ -123,6 +126,12 @@ caller_value r back row = if is_instruction_pointer row.role then Some back.retu
     else option_map_or (value_of r.state (Some back.frame_address))
     (rule_at r.cfi row.label r.offset) (unruled_value r.known back row.name row.role)
 
+-- the value of a register, by what those of its frame are found by
+abbrev pub value_by : RegisterSource → RegisterRow → Option ℕ
+value_by (source.Context c) row = valid_value_in c.now.valid (registers_of c.now.raw) row.name
+value_by (source.Pointers f) row = pointer_value f row.role
+value_by (source.Rules r back) row = caller_value (rules_of r.now) back row
+
 -- ---- the caller
 
 -- whether a frame is that of a context
@@ -160,3 +169,13 @@ caller_with u f back registers = option_and_then (λ stack_pointer.
 abbrev pub caller_by : UnwinderValue → StackFrame → RulesValue → Option FrameValue
 caller_by u f r = option_and_then
     (λ back. caller_with u f back (known_by (caller_value r back) u.registers)) (returns r)
+
+-- a frame is the caller of another by its rules: these return to its instruction, and its registers
+-- have the values that they and the calling convention give by those of the callee
+pub record IsByRules (u : UnwinderValue) (f g : FrameValue) : Type 0 where
+  pub rules : RulesValue
+  pub back : Return
+  pub has_rules : rules_at u f ≡ Some rules
+  pub has_return : returns rules ≡ Some back
+  pub instruction : g.frame.instruction ≡ back.return_address
+  pub registers : g.registers ≡ known_by (caller_value rules back) u.registers

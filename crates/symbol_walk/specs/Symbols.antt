@@ -1,5 +1,5 @@
 -- What an address is looked up in: the modules of a process, and their symbols.
-use Rattle.std.specs.Prelude.{ℕ, Bool, is_some, List, Option, slice_get}
+use Rattle.std.specs.Prelude.{◌≡◌, ℕ, List, Option, None, slice_get}
 use Rattle.std.specs.Option.{option_and_then, option_map}
 use Rattle.minidump.specs.Below.Modules.Module.{ModuleValue}
 use Rattle.minidump_index.specs.declared.range.Range.{Range}
@@ -13,6 +13,10 @@ use Rattle.breakpad_symbols.specs.SymbolFile.{SymbolsValue}
 -- the symbols of the module with an index: none, where the list has none for it
 abbrev pub symbols_of_module : List (Option SymbolsValue) → ℕ → Option SymbolsValue
 symbols_of_module symbols index = option_and_then (λ s. s) (slice_get symbols index)
+
+-- no module has symbols
+abbrev pub HaveNone : List (Option SymbolsValue) → Type 0
+HaveNone symbols = (index : ℕ) → symbols_of_module symbols index ≡ None
 
 -- the symbols of the kept module that contains an address, and the offset in that
 unfoldable pub symbols_at : List ModuleValue → List (Option SymbolsValue) → ℕ → Option (SymbolsValue × ℕ)
@@ -31,6 +35,6 @@ cfi_at s offset = looked_up range_of_rules s.cfi offset
 abbrev pub range_of_lines : FunctionValue → Option Range
 range_of_lines f = range_of f.address f.size
 
--- whether a kept function has an offset
-abbrev pub has_function : SymbolsValue → ℕ → Bool
-has_function s offset = is_some (looked_up range_of_lines s.functions offset)
+-- the kept function that has an offset
+abbrev pub function_at : SymbolsValue → ℕ → Option FunctionValue
+function_at s offset = looked_up range_of_lines s.functions offset

@@ -6,12 +6,12 @@ use Rattle.minidump.specs.Below.Contexts.Context.{registers_of, valid_value_in}
 use Rattle.stack_walk.specs.declared.frame.StackFrame.{StackFrame}
 use Rattle.stack_walk.specs.Frames.{StackValue, context_frame, stack_of}
 use Rattle.breakpad_symbols.specs.SymbolFile.{SymbolsValue, symbols_of}
-use Rattle.symbol_walk.specs.declared.frame.KnownFrame.{KnownFrame}
+use Rattle.symbol_walk.specs.declared.walk.KnownFrame.{KnownFrame}
 use Rattle.symbol_walk.specs.declared.registers.RegisterRole.{RegisterRole}
 use Rattle.symbol_walk.specs.declared.registers.RegisterRole.TheVariants.{InstructionPointer}
 use Rattle.symbol_walk.specs.declared.registers.RegisterRole.TheVariants.{StackPointer}
 use Rattle.symbol_walk.specs.declared.registers.RegisterRole.TheVariants.{FramePointer}
-use Rattle.symbol_walk.specs.declared.unwinder.Unwinder.{Unwinder}
+use Rattle.symbol_walk.specs.declared.walk.Unwinder.{Unwinder}
 use Rattle.symbol_walk.specs.Registers.{RegisterRow, known_by, known_of, register_table, row_of}
 
 -- the stack of a thread, the symbols of its modules by their index, and the registers of its

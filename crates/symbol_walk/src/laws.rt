@@ -3,12 +3,12 @@
 ghost use Rattle.std.specs.Prelude.{◌≡◌, ◌↔◌, ◌≤◌, ◌+◌, ℕ, List, Option, Some, length, map};
 ghost use Rattle.minidump.specs.declared.MinidumpContext.{MinidumpContext};
 ghost use Rattle.stack_walk.specs.declared.frame.FrameTrust.TheVariants.{Cfi};
-ghost use Rattle.stack_walk.specs.Climb.{AreCallers, outermost};
-ghost use Rattle.stack_walk.specs.Frames.{StackValue, stack_bytes};
+ghost use Rattle.stack_walk.specs.Frames.{AreCallers, StackValue, outermost, stack_bytes};
 ghost use Rattle.stack_walk.specs.Walk.{walk_in};
 ghost use Rattle.breakpad_symbols.specs.SymbolFile.{SymbolsValue};
 ghost use Rattle.symbol_walk.specs.declared.walk.SymbolWalkEnd.TheVariants.{Walk};
-ghost use Rattle.symbol_walk.specs.Frames.{HaveNone, IsByRules};
+ghost use Rattle.symbol_walk.specs.Rules.{IsByRules};
+ghost use Rattle.symbol_walk.specs.Symbols.{HaveNone};
 ghost use Rattle.symbol_walk.specs.Unwinder.{FrameValue, UnwinderValue};
 ghost use Rattle.symbol_walk.specs.Walk.{caller_of, callers_in, symbol_walk_in};
 
@@ -28,7 +28,7 @@ pub fn without_symbols_a_walk_is_by_frame_pointers()
 
 /// A frame has exactly one list of callers: each is the caller of the one before it, and the last has
 /// none.
-#[tactic(auto, using(crate::proofs::UpLemmas::callers_by))]
+#[tactic(auto, using(crate::proofs::ReachLemmas::callers_by))]
 pub fn one_list_of_callers()
     ensures { (u : UnwinderValue) (f : FrameValue) (callers : List FrameValue) (last : FrameValue)
         → AreCallers (caller_of u) f callers last
@@ -44,6 +44,7 @@ pub fn rules_give_the_registers()
 {}
 
 /// There is at most one caller for each byte of the stack, and one more.
+#[tactic(auto, using(stack_walk::proofs::CallerLemmas::few_callers))]
 pub fn frames_are_few()
     ensures { (s : StackValue) (symbols : List (Option SymbolsValue)) (c : MinidumpContext)
         (limit : ℕ) → length (symbol_walk_in s symbols c limit).frames

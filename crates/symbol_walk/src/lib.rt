@@ -53,15 +53,11 @@
 //!   [`laws::without_symbols_a_walk_is_by_frame_pointers`].
 #![tactic(auto)]
 
-mod frame;
 pub mod laws;
 mod registers;
 mod rules;
 mod scan;
-mod state;
-mod unwinder;
 mod walk;
 
-pub use frame::KnownFrame;
 pub use registers::KnownRegister;
-pub use walk::{SymbolWalk, SymbolWalkEnd, walk_by_symbols};
+pub use walk::{KnownFrame, SymbolWalk, SymbolWalkEnd, function_at, plain_frames, walk_by_symbols};

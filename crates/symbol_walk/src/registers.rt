@@ -7,8 +7,12 @@ ghost use Rattle.symbol_walk.specs.Registers.{is_frame_pointer, is_stack_pointer
 ghost use Rattle.symbol_walk.specs.Registers.{known_by, known_frame_pointer, known_of};
 ghost use Rattle.symbol_walk.specs.Registers.{known_stack_pointer, known_value};
 ghost use Rattle.symbol_walk.specs.Registers.{labelled_value, register_table, row_of};
+ghost use Rattle.symbol_walk.specs.Rules.{value_by};
+ghost use Rattle.symbol_walk.specs.Unwinder.{pointer_value};
 
-use minidump::MinidumpRawContext;
+use crate::rules::{Return, Rules};
+use minidump::{MinidumpContext, MinidumpRawContext};
+use stack_walk::StackFrame;
 use std::alloc::{AllocError, Global};
 
 /// A register of a frame whose value is known.
@@ -110,39 +114,64 @@ pub(crate) fn register_table(raw: &MinidumpRawContext) -> &'static [Register]
 
 // ---- values
 
-// Values of registers. `self` is what they are found by.
-pub(crate) trait RegisterValues {
-    ghost use Rattle.std.specs.Prelude.{ℕ, Option};
-    ghost use Rattle.symbol_walk.specs.Registers.{RegisterRow};
-
-    ghost value_of: { Self → RegisterRow → Option ℕ };
-
-    // Returns the value of a register, or `None` if it isn't known. The only error is that no memory
-    // is left.
-    fn value(&self, alloc: Global, register: &Register) -> Result<Option<u64>, AllocError>
-        ensures { IfOk result (λ v. v ≡ value_of self.now (row_of register.now)) };
+// What the values of a frame's registers are found by.
+#[derive(Clone, Copy)]
+pub(crate) enum RegisterSource<'r, 'f, 'l, 'a, 's> {
+    // a context, by its valid registers
+    Context(&'r MinidumpContext),
+    // a frame of which its pointers alone are known
+    Pointers(StackFrame),
+    // the rules of the callee, and where they return to
+    Rules(&'r Rules<'f, 'l, 'a, 's>, Return),
 }
 
-// Returns the registers of a table that have a value.
+// Returns the registers of a table that have a value. The only error is that no memory is left.
 #[tactic(auto, unfolding(crate::specs::Registers::known_by))]
-pub(crate) fn known_by<V: RegisterValues>(
+pub(crate) fn known_by(
     alloc: Global,
-    by: &V,
+    by: &RegisterSource<'_, '_, '_, '_, '_>,
     table: &[Register],
 ) -> Result<Vec<KnownRegister>, AllocError>
     ensures { IfOk result (λ known. map known_of known.items
-        ≡ known_by (V.value_of by.now) (map row_of table.now)) }
+        ≡ known_by (value_by by.now) (map row_of table.now)) }
 {
     let mut known = Vec::new(alloc);
     for register in table {
-        let value = by.value(alloc, register)?;
+        let value = value_by(alloc, by, register)?;
         push_known(&mut known, register, value)?;
     }
     Ok(known)
 }
 
+// Returns the value of a register, or `None` if it isn't known.
+fn value_by(
+    alloc: Global,
+    by: &RegisterSource<'_, '_, '_, '_, '_>,
+    register: &Register,
+) -> Result<Option<u64>, AllocError>
+    ensures { IfOk result (λ v. v ≡ value_by by.now (row_of register.now)) }
+{
+    match by {
+        RegisterSource::Context(context) => Ok(context.get_register(register.name)),
+        RegisterSource::Pointers(frame) => Ok(pointer_value(frame, register.role)),
+        RegisterSource::Rules(rules, back) => rules.caller_value(alloc, *back, register),
+    }
+}
+
+// Returns what a frame alone says of a register with a role.
+fn pointer_value(frame: &StackFrame, role: RegisterRole) -> Option<u64>
+    ensures { result ≡ pointer_value frame.now role }
+{
+    match role {
+        RegisterRole::InstructionPointer => Some(frame.instruction),
+        RegisterRole::StackPointer => Some(frame.stack_pointer),
+        RegisterRole::FramePointer => frame.frame_pointer,
+        RegisterRole::Saved | RegisterRole::Scratch => None,
+    }
+}
+
 // Appends a register, if its value is known.
-pub(crate) fn push_known(
+fn push_known(
     known: &mut Vec<KnownRegister>,
     register: &Register,
     value: Option<u64>,

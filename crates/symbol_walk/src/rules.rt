@@ -2,21 +2,62 @@
 ghost use Rattle.std.specs.Prelude.{◌≡◌, IfOk, map};
 ghost use Rattle.std.specs.Option.{option_map};
 ghost use Rattle.stack_walk.specs.Frames.{stack_of};
-ghost use Rattle.symbol_walk.specs.Registers.{known_by, known_of, row_of};
-ghost use Rattle.symbol_walk.specs.Rules.{caller_by, caller_value, end_by, goes_on};
+ghost use Rattle.breakpad_symbols.specs.AddressWidth.{bits_of};
+ghost use Rattle.symbol_walk.specs.Registers.{known_of, row_of};
+ghost use Rattle.symbol_walk.specs.Rules.{address_bits, caller_by, caller_value, end_by, goes_on};
 ghost use Rattle.symbol_walk.specs.Rules.{returns, rules_at, rules_of, unruled_value};
 ghost use Rattle.symbol_walk.specs.Unwinder.{frame_of, unwinder_of};
 
 use crate::registers::{
-    KnownRegister, Register, RegisterRole, known_frame_pointer, known_stack_pointer, known_value,
-    push_known,
+    KnownRegister, Register, RegisterRole, RegisterSource, known_by, known_frame_pointer,
+    known_stack_pointer, known_value, labelled_value,
 };
-use crate::state::{FrameState, address_width};
-use crate::unwinder::{Unwinder, cfi_at};
+use crate::walk::{Unwinder, cfi_at};
 use crate::{KnownFrame, SymbolWalkEnd};
-use breakpad_symbols::{CfiRecord, evaluate};
+use breakpad_symbols::{AddressWidth, CfiRecord, UnwindState, evaluate};
+use minidump::system_info::PointerWidth;
 use stack_walk::{FrameTrust, Stack, StackFrame};
 use std::alloc::{AllocError, Global};
+
+// The known registers of a frame by their labels, and the words of the stack.
+#[derive(Clone, Copy)]
+pub(crate) struct FrameState<'f, 'l, 'a> {
+    pub(crate) stack: &'f Stack<'l, 'a>,
+    pub(crate) table: &'static [Register],
+    pub(crate) known: &'f [KnownRegister],
+    pub(crate) width: AddressWidth,
+}
+
+impl UnwindState for FrameState<'_, '_, '_> {
+    ghost use Rattle.symbol_walk.specs.Rules.{state_of};
+
+    ghost value = { state_of };
+
+    fn width(&self) -> AddressWidth {
+        self.width
+    }
+
+    fn register(&self, name: &[u8]) -> Option<u64> {
+        labelled_value(self.table, self.known, name)
+    }
+
+    fn word_at(&self, address: u64) -> Option<u64> {
+        self.stack.word_at(address)
+    }
+}
+
+// Returns the width of an address, if it is known.
+pub(crate) fn address_width(width: PointerWidth) -> Option<AddressWidth>
+    ensures { option_map bits_of result ≡ address_bits width }
+{
+    match width {
+        PointerWidth::Bits32 => Some(AddressWidth::Bits32),
+        PointerWidth::Bits64 => Some(AddressWidth::Bits64),
+        PointerWidth::Unknown => None,
+    }
+}
+
+// ---- the rules of a frame
 
 // The rules of a frame: the unwind information, the offset at which it is read, and what it refers
 // to.
@@ -106,7 +147,7 @@ impl Rules<'_, '_, '_, '_> {
         let Some(back) = self.returns(alloc)? else {
             return Ok(None);
         };
-        let registers = self.caller_registers(alloc, back, by.registers)?;
+        let registers = known_by(alloc, &RegisterSource::Rules(self, back), by.registers)?;
         let Some(stack_pointer) = known_stack_pointer(by.registers, registers.as_slice()) else {
             return Ok(None);
         };
@@ -123,28 +164,9 @@ impl Rules<'_, '_, '_, '_> {
         Ok(Some(KnownFrame { frame, registers }))
     }
 
-    // Returns the registers of a table that have a value in the caller.
-    #[tactic(auto, unfolding(crate::specs::Registers::known_by))]
-    fn caller_registers(
-        &self,
-        alloc: Global,
-        back: Return,
-        table: &[Register],
-    ) -> Result<Vec<KnownRegister>, AllocError>
-        ensures { IfOk result (λ known. map known_of known.items
-            ≡ known_by (caller_value (rules_of self.now) back) (map row_of table.now)) }
-    {
-        let mut known = Vec::new(alloc);
-        for register in table {
-            let value = self.caller_value(alloc, back, register)?;
-            push_known(&mut known, register, value)?;
-        }
-        Ok(known)
-    }
-
     // Returns the value of a register in the caller: the return address, or that by its rule, or else
     // by the calling convention.
-    fn caller_value(
+    pub(crate) fn caller_value(
         &self,
         alloc: Global,
         back: Return,

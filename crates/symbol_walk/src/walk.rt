@@ -1,21 +1,20 @@
 //! The walk of a context.
 ghost use Rattle.std.specs.Prelude.{◌≡◌, ◌++◌, ◌∷◌, [], IfOk, IsOkUnless, map};
-ghost use Rattle.std.specs.Option.{option_map};
-ghost use Rattle.stack_walk.specs.Climb.{outermost};
-ghost use Rattle.stack_walk.specs.Frames.{stack_of};
+ghost use Rattle.std.specs.Option.{option_copied, option_map};
+ghost use Rattle.stack_walk.specs.Frames.{outermost, stack_of};
+ghost use Rattle.breakpad_symbols.specs.Cfi.{cfi_of};
+ghost use Rattle.breakpad_symbols.specs.Function.{function_of};
 ghost use Rattle.breakpad_symbols.specs.SymbolFile.{symbols_of};
-ghost use Rattle.symbol_walk.specs.Unwinder.{frame_of, unwinder_of};
+ghost use Rattle.symbol_walk.specs.Symbols.{cfi_at, function_at, symbols_at};
+ghost use Rattle.symbol_walk.specs.Unwinder.{frame_of, pointer_frame, unwinder_of};
 ghost use Rattle.symbol_walk.specs.Walk.{caller_of, caller_without, callers_in, end_by_rules};
 ghost use Rattle.symbol_walk.specs.Walk.{end_of, plain_frames, symbol_walk_in, symbol_walk_of};
 ghost use Rattle.symbol_walk.specs.Walk.{walk_from};
 
-use crate::KnownFrame;
-use crate::frame::OfContext;
-use crate::registers::{known_by, register_table};
-use crate::unwinder::Unwinder;
-use breakpad_symbols::SymbolFile;
-use minidump::{Error, MinidumpContext};
-use stack_walk::{Stack, StackFrame, WalkEnd, link_of};
+use crate::registers::{KnownRegister, Register, RegisterSource, known_by, register_table};
+use breakpad_symbols::{CfiRecord, Function, SymbolFile};
+use minidump::{Error, MinidumpContext, Steps};
+use stack_walk::{Stack, StackFrame, WalkEnd, link_of, module_place};
 use std::alloc::{AllocError, Global};
 
 /// Why the last frame of a walk by symbols has no caller.
@@ -29,6 +28,15 @@ pub enum SymbolWalkEnd {
     NoReturnRule,
     /// The return address is 0 by its rules.
     ZeroReturnAddress,
+}
+
+/// A frame, with what is known of its registers.
+#[derive(Drop)]
+pub struct KnownFrame {
+    /// The frame.
+    pub frame: StackFrame,
+    /// The registers whose values are known, in the order of the processor.
+    pub registers: Vec<KnownRegister>,
 }
 
 /// The frames of a context by symbols, the candidates, and why there are no more callers.
@@ -67,10 +75,51 @@ pub fn walk_by_symbols(
     };
     let first = KnownFrame {
         frame: StackFrame::of_context(context),
-        registers: known_by(alloc, &OfContext(context), by.registers)?,
+        registers: known_by(alloc, &RegisterSource::Context(context), by.registers)?,
     };
     Ok(by.walk(alloc, first, link_of(context), limit)?)
 }
+
+// ---- what the frames are found by
+
+// The stack of a thread, the symbols of its modules by their index, and the registers of its
+// processor.
+#[derive(Clone, Copy)]
+pub(crate) struct Unwinder<'w, 'l, 'a, 's> {
+    pub(crate) stack: &'w Stack<'l, 'a>,
+    pub(crate) symbols: &'w [Option<&'w SymbolFile<'s>>],
+    pub(crate) registers: &'static [Register],
+}
+
+impl<'w, 's> Unwinder<'w, '_, '_, 's> {
+    // Returns the symbols of the kept module that contains an address, and the offset in that.
+    #[tactic(auto, unfolding(crate::specs::Symbols::symbols_at))]
+    pub(crate) fn symbols_at(&self, address: u64) -> Option<(&'w SymbolFile<'s>, u64)>
+        ensures { option_map (λ p. (symbols_of p.0.now, p.1)) result ≡ symbols_at
+            (unwinder_of self.now).stack.modules (unwinder_of self.now).symbols address }
+    {
+        let (index, offset) = module_place(self.stack.modules, address)?;
+        let symbols = (*self.symbols.get(index)?)?;
+        Some((symbols, offset))
+    }
+}
+
+// Returns the kept rules of an offset.
+pub(crate) fn cfi_at<'w, 's>(symbols: &'w SymbolFile<'s>, offset: u64) -> Option<&'w CfiRecord<'s>>
+    ensures { option_map cfi_of (option_copied result) ≡ cfi_at (symbols_of symbols.now) offset }
+{
+    symbols.cfi_at(offset, &mut Steps::new())
+}
+
+/// Returns the kept function of a symbol file that has an offset.
+pub fn function_at<'w, 's>(symbols: &'w SymbolFile<'s>, offset: u64) -> Option<&'w Function<'s>>
+    ensures { option_map function_of (option_copied result)
+        ≡ function_at (symbols_of symbols.now) offset }
+{
+    symbols.function_at(offset, &mut Steps::new())
+}
+
+// ---- callers
 
 impl Unwinder<'_, '_, '_, '_> {
     // Walks from a frame with this link register.
@@ -153,6 +202,14 @@ impl Unwinder<'_, '_, '_, '_> {
         }
     }
 
+    // Returns a frame of which its pointers alone are known.
+    fn pointer_frame(&self, alloc: Global, frame: StackFrame) -> Result<KnownFrame, AllocError>
+        ensures { IfOk result (λ f. frame_of f ≡ pointer_frame (unwinder_of self.now) frame) }
+    {
+        let registers = known_by(alloc, &RegisterSource::Pointers(frame), self.registers)?;
+        Ok(KnownFrame { frame, registers })
+    }
+
     // Returns why the walk ends by the rules of a frame.
     #[tactic(auto, unfolding(crate::specs::Walk::end_by_rules))]
     fn end_by_rules(
@@ -180,8 +237,8 @@ impl Unwinder<'_, '_, '_, '_> {
     }
 }
 
-// Returns the frames alone.
-fn plain_frames(alloc: Global, frames: &[KnownFrame]) -> Result<Vec<StackFrame>, AllocError>
+/// Returns the frames alone. The only error is that no memory is left.
+pub fn plain_frames(alloc: Global, frames: &[KnownFrame]) -> Result<Vec<StackFrame>, AllocError>
     ensures { IfOk result (λ plain. plain.items ≡ plain_frames (map frame_of frames.now)) }
 {
     let mut plain = Vec::new(alloc);

@@ -66,6 +66,9 @@ module _ (modules : List LoadedValue) (old new : KnownSymbols) (index : ℕ) (fo
   pub asked_with : (k : ℕ) → (k ≢ index → IsAsked old.states k) → IsAsked new.states k
   asked_with k before = rw states (state_set old.states index k (state_read found) (found_tells found).1 before)
 
+-- a list of copies is mapped to one of copies
+pub ruleset replicated = (map-replicate)
+
 none_belongs : (modules : List CrashModule) → AllZip Belongs (map loaded_of modules) (replicate (length modules) None)
 none_belongs [] = tt
 none_belongs (m ∷ modules) = (tt, none_belongs modules)

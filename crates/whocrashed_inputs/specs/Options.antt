@@ -65,17 +65,14 @@ pub record AreAskedFor (command : Command) (words : List (String Global)) (optio
 abbrev pub has_dirs : Options → Bool
 has_dirs options = not (length options.symbols.items == 0)
 
--- how many of the arguments are `-`, the dump on standard input
-abbrev pub inputs_in : List (List ℕ) → ℕ
-inputs_in paths = count_by (bytes_eq (codes "-")) paths
-
--- standard input is asked for more than once, as a dump or as a list of paths
-abbrev pub has_several_inputs : List (List ℕ) → Bool → Bool
-has_several_inputs paths listed = nat_lt 1 (inputs_in paths) || inputs_in paths == 1 && listed
-
 abbrev is_html : Form → Bool
 is_html Html = true
 is_html _ = false
+
+-- standard input is asked for more than once, as a dump, `-`, or as a list of paths
+abbrev pub has_several_inputs : List (List ℕ) → Bool → Bool
+has_several_inputs paths listed =
+    let inputs = count_by (bytes_eq (codes "-")) paths in nat_lt 1 inputs || inputs == 1 && listed
 
 -- the arguments are refused, though each is well formed: a page of several dumps, standard input read
 -- twice, or no frames, with which JSON and page would lack the registers, too

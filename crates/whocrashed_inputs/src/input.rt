@@ -1,7 +1,6 @@
 ghost use Rattle.std.specs.Prelude.{◌≡◌, ◌++◌, IfOk, IfSome, map, vec_items};
 ghost use Rattle.std.specs.Option.{option_map};
-ghost use Rattle.whocrashed_inputs.specs.Input.{asked_in, asked_of, by_argument, by_list, separator_of};
-ghost use Rattle.whocrashed_inputs.specs.Input.{within};
+ghost use Rattle.whocrashed_inputs.specs.Input.{asked_in, asked_of, by_argument, by_list, within};
 
 use std::alloc::{AllocError, Global};
 use std::fs::File;
@@ -29,7 +28,7 @@ pub fn dumps_in<'l>(
     ensures { IfOk result (λ dumps. map asked_of dumps.items
         ≡ map (λ a. by_argument a.now) arguments.now ++ asked_in list.now) }
 {
-    let separator = separator_of(list);
+    let separator = if list.contains(&0) { 0 } else { b'\n' };
     let paths = list
         .split(|byte| *byte == separator)
         .filter(|path| !path.is_empty());
@@ -60,13 +59,6 @@ fn by_list(path: &[u8]) -> Dump<'_>
         Ok(path) => Dump::File(path),
         Err(_) => Dump::Malformed(path),
     }
-}
-
-// Returns what stands between the paths of a list: NULs if it has one, and else line feeds.
-fn separator_of(list: &[u8]) -> u8
-    ensures { result ≡ separator_of list.now }
-{
-    if list.contains(&0) { 0 } else { b'\n' }
 }
 
 /// Reads dumps and the list of paths, or returns `None` if one has more bytes than are read.

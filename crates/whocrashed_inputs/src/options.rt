@@ -1,8 +1,8 @@
 ghost use Rattle.std.specs.Prelude.{◌≡◌, IfOk, false, is_some, map};
 ghost use Rattle.clap.specs.Words.{found_of};
 ghost use Rattle.clap.specs.declared.builder.command.Command.{Command};
-ghost use Rattle.whocrashed_inputs.specs.Options.{AreAskedFor, AreOptions, IsFlag, IsNumber, form_by};
-ghost use Rattle.whocrashed_inputs.specs.Options.{has_several_inputs, is_refused, values_in};
+ghost use Rattle.whocrashed_inputs.specs.Options.{AreAskedFor, AreOptions, IsNumber, form_by};
+ghost use Rattle.whocrashed_inputs.specs.Options.{has_several_inputs, is_refused};
 
 use clap::error::ErrorKind;
 use clap::{Arg, ArgAction, ArgMatches, Command, Error, value_parser};
@@ -175,25 +175,25 @@ fn has_several_inputs(paths: &[&str], are_listed: bool) -> bool
 fn options_of<'w>(alloc: Global, matches: &ArgMatches<'w>) -> Result<Options<'w>, AllocError>
     ensures { IfOk result (λ options. AreOptions (found_of matches.now) options) }
 {
-    let names = values_of(alloc, matches, "names")?;
-    let symbols = values_of(alloc, matches, "symbols")?;
-    let dumps = values_of(alloc, matches, "dumps")?;
+    let names = Vec::from_slice(alloc, matches.get_strs("names").unwrap_or(&[]))?;
+    let symbols = Vec::from_slice(alloc, matches.get_strs("symbols").unwrap_or(&[]))?;
+    let dumps = Vec::from_slice(alloc, matches.get_strs("dumps").unwrap_or(&[]))?;
     Ok(Options {
-        form: form_by(flag_of(matches, "json"), flag_of(matches, "html")),
+        form: form_by(matches.get_flag("json"), matches.get_flag("html")),
         frames: number_of(matches, "frames"),
-        all_threads: flag_of(matches, "all-threads"),
-        lists: flag_of(matches, "lists"),
-        modules: flag_of(matches, "modules"),
-        handles: flag_of(matches, "handles"),
-        environment: flag_of(matches, "environment"),
+        all_threads: matches.get_flag("all-threads"),
+        lists: matches.get_flag("lists"),
+        modules: matches.get_flag("modules"),
+        handles: matches.get_flag("handles"),
+        environment: matches.get_flag("environment"),
         scan: number_of(matches, "scan"),
         names,
-        only_names: flag_of(matches, "only-names"),
+        only_names: matches.get_flag("only-names"),
         symbols,
         symbols_limit: number_of(matches, "symbols-limit"),
-        shows_progress: flag_of(matches, "progress"),
+        shows_progress: matches.get_flag("progress"),
         dumps,
-        are_listed: flag_of(matches, "stdin-paths"),
+        are_listed: matches.get_flag("stdin-paths"),
         limit: number_of(matches, "limit"),
     })
 }
@@ -211,31 +211,12 @@ fn form_by(json: bool, html: bool) -> Form
     }
 }
 
-// Tells whether a flag is given.
-fn flag_of(matches: &ArgMatches<'_>, id: &str) -> bool
-    ensures { IsFlag (found_of matches.now) id.now result }
-{
-    matches.get_flag(id)
-}
-
 // Returns the number of an option. clap has a default for each, and returns an error for a text
 // that is no number.
 fn number_of(matches: &ArgMatches<'_>, id: &str) -> usize
     ensures { IsNumber (found_of matches.now) id.now result }
 {
     matches.get_one::<usize>(id).unwrap_or(0)
-}
-
-// Copies the values of an argument, in their order.
-fn values_of<'w>(
-    alloc: Global,
-    matches: &ArgMatches<'w>,
-    id: &str,
-) -> Result<Vec<&'w str>, AllocError>
-    ensures { IfOk result (λ values. map (λ v. v.now) values.items
-        ≡ values_in (found_of matches.now) id.now) }
-{
-    Vec::from_slice(alloc, matches.get_strs(id).unwrap_or(&[]))
 }
 
 // Makes the command, which knows the options and the dumps.
@@ -246,7 +227,15 @@ fn command<'w>(alloc: Global) -> Result<Command<'w>, AllocError> {
         .about(ABOUT)
         .after_help(EXAMPLES);
     for (name, takes, help) in OPTIONS {
-        command = command.arg(option(Arg::new(alloc, *name).long(*name).help(*help), takes)?)?;
+        let arg = Arg::new(alloc, *name).long(*name).help(*help);
+        command = command.arg(match takes {
+            Takes::Nothing(others) => arg.action(ArgAction::SetTrue).conflicts_with_all(*others)?,
+            Takes::Paths(value) => arg.value_name(*value).action(ArgAction::Append),
+            Takes::Number(value, default) => arg
+                .value_name(*value)
+                .value_parser(value_parser!(usize))
+                .default_value(*default),
+        })?;
     }
     command.arg(
         Arg::new(alloc, "dumps")
@@ -256,17 +245,4 @@ fn command<'w>(alloc: Global) -> Result<Command<'w>, AllocError> {
             .num_args(1..)
             .required_unless_present("stdin-paths")?,
     )
-}
-
-// Makes an argument an option, by what stands behind it.
-fn option<'w>(arg: Arg<'w>, takes: &Takes) -> Result<Arg<'w>, AllocError> {
-    match takes {
-        Takes::Nothing(others) => arg.action(ArgAction::SetTrue).conflicts_with_all(*others),
-        Takes::Paths(value) => Ok(arg.value_name(*value).action(ArgAction::Append)),
-        Takes::Number(value, default) => Ok(
-            arg.value_name(*value)
-                .value_parser(value_parser!(usize))
-                .default_value(*default),
-        ),
-    }
 }

@@ -176,6 +176,7 @@ fn of_module(found: Found, loaded: &CrashModule) -> Found
 }
 
 /// Makes the symbols of modules, none of whose files was looked for.
+#[tactic(auto, using(crate::proofs::SymbolLemmas::replicated))]
 pub fn unknown(alloc: Global, modules: &[CrashModule]) -> Result<Symbols<'static>, AllocError>
     ensures files { IfOk result (λ symbols. (known_of symbols).files
         ≡ replicate (length modules.now) None) }

@@ -7,7 +7,8 @@ use Rattle.minidump.specs.DumpValue.{dump_of}
 use Rattle.crash.specs.declared.damage.Damage.{Damage}
 use Rattle.crash_threads.specs.Cause.{CauseValue, cause_in, cause_of}
 use Rattle.crash_streams.specs.Contents.{ContentsValue, contents_of}
-use Rattle.crash.specs.Crash.{CrashValue, crash_by, damage_in}
+use Rattle.crash.specs.Crash.{CrashValue, crash_by}
+use Rattle.crash.specs.Damage.{damage_in}
 use Rattle.crash_process.specs.Directory.{DirectoryValue, directory_in, directory_of}
 use Rattle.crash_process.specs.Modules.{ModulesValue, modules_in, modules_of}
 use Rattle.crash_threads.specs.Point.{PointValue, point_in, point_of}

@@ -1,7 +1,7 @@
 -- The parameters so far.
 use Rattle.std.proofs.Common.{◌≡◌, ◌++◌, string_bytes, take}
 use Rattle.std.specs.List.{flat_map}
-use Rattle.crash_lines.specs.Records.{parameter_words}
+use Rattle.crash_lines.specs.Exceptions.{parameter_words}
 use Rattle.crash_lines.proofs.parts.push_parameters.Given as goal
 
 abbrev pub invariant-loop-other : goal.invariant-loop-other

@@ -1,7 +1,7 @@
 -- The words of the registers so far.
 use Rattle.std.proofs.Common.{◌≡◌, ◌++◌, map, string_bytes, take}
 use Rattle.std.specs.List.{flat_map}
-use Rattle.crash_lines.specs.Registers.{register_words}
+use Rattle.crash_lines.specs.Point.{register_words}
 use Rattle.crash_lines.proofs.parts.push_registers.Given as goal
 
 abbrev pub invariant-loop-register : goal.invariant-loop-register

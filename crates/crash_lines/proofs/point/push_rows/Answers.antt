@@ -2,7 +2,7 @@
 use Rattle.std.proofs.Common.{◌≡◌, ◌∙◌, ◌<◌, ℕ, ap, append-nil, append_assoc, arith, length, map, min, List, [], ◌∷◌, ◌++◌, refl, rules, sym}
 use Rattle.std.proofs.lemmas.List.{length-map, map-append, nil_from_length}
 use Rattle.std.specs.Slice.Iter.{chunks_rest}
-use Rattle.crash_lines.specs.Registers.{register_row, rows}
+use Rattle.crash_lines.specs.Point.{register_row, rows}
 use Rattle.crash_lines.proofs.point.push_rows.Goals as goal
 
 -- a row comes off: four items, or all where there are fewer

@@ -3,7 +3,7 @@ use Rattle.std.proofs.Common.{◌≡◌, ◌++◌, map, string_bytes}
 use Rattle.std.specs.List.{flat_map}
 use Rattle.std.specs.Slice.Iter.{chunks_rest, chunks_size}
 use Rattle.crash_lines.specs.Lines.{line_of}
-use Rattle.crash_lines.specs.Registers.{register_row, rows}
+use Rattle.crash_lines.specs.Point.{register_row, rows}
 use Rattle.crash_lines.proofs.point.push_rows.Given as goal
 
 abbrev pub invariant-loop-row : goal.invariant-loop-row

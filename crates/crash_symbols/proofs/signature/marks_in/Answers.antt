@@ -9,7 +9,7 @@ use Rattle.crash_process.specs.Modules.{loaded_of}
 use Rattle.crash_symbols.specs.declared.shown.ShownFrame.{ShownFrame}
 use Rattle.crash_symbols.specs.Shown.{shown_frame_of}
 use Rattle.crash_symbols.specs.Signature.{mark_of, marks_in}
-use Rattle.crash_symbols.proofs.SignatureLemmas.{all_found, one_found}
+use Rattle.crash_symbols.proofs.ListLemmas.{all_found, one_found}
 use Rattle.crash_symbols.proofs.signature.marks_in.Goals.{in-Some+in_ok-push, in_default}
 use Rattle.crash_symbols.proofs.signature.marks_in.Goals as goal
 

@@ -2,7 +2,7 @@
 use Rattle.std.proofs.Common.{◌≡◌, ◌<◌, ◌||◌, ℕ, false, get_or, length, map, take}
 use Rattle.std.specs.List.{list_any}
 use Rattle.crash_symbols.specs.NameParts.{named_of}
-use Rattle.crash_symbols.specs.Wanted.{lies_in}
+use Rattle.crash_symbols.specs.Backtraces.{lies_in}
 use Rattle.crash_symbols.proofs.wanted.mark_frames.Given as goal
 
 abbrev pub invariant-loop-named : goal.invariant-loop-named

@@ -2,8 +2,7 @@
 use Rattle.std.proofs.Common.{◌≡◌, ◌<◌, ℕ, false, get_or, length, map, take}
 use Rattle.std.specs.List.{list_any}
 use Rattle.std.specs.Option.{option_map}
-use Rattle.crash_symbols.specs.Backtraces.{backtrace_of}
-use Rattle.crash_symbols.specs.Wanted.{visits}
+use Rattle.crash_symbols.specs.Backtraces.{backtrace_of, visits}
 use Rattle.crash_symbols.proofs.wanted.visited.Given as goal
 
 abbrev pub invariant-loop-thread : goal.invariant-loop-thread

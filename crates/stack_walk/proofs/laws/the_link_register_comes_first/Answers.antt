@@ -1,11 +1,10 @@
 -- The steps that look for the candidate are the parts of the relation. It heads the list that the scan
 -- takes from, whose other candidates stand in the stack.
-use Rattle.stack_walk.proofs.EvidenceLemmas.{only_link}
-use Rattle.stack_walk.proofs.LinkLemmas.{first_of_scan, link_candidate_by}
+use Rattle.stack_walk.proofs.EvidenceLemmas.{first_of_scan, is_found, is_linked, only_link}
 use Rattle.stack_walk.proofs.laws.the_link_register_comes_first.Goals as goal
 
 pub returns-clause-exact : goal.returns-clause-exact
-returns-clause-exact c = link_candidate_by
+returns-clause-exact c s link frames f = (is_found s link frames f, is_linked s link frames f)
 
 pub returns-clause-first : goal.returns-clause-first
 returns-clause-first c = first_of_scan

@@ -1,7 +1,6 @@
 -- A caller more, or the end.
 use Rattle.std.proofs.Common.{◌≡◌, ◌∙◌, ◌++◌, [], ◌∷◌, Some, ap, append-nil, append_assoc, arith, refl, sym}
-use Rattle.stack_walk.specs.Climb.{outermost}
-use Rattle.stack_walk.specs.Frames.{caller_of, stack_of}
+use Rattle.stack_walk.specs.Frames.{caller_of, outermost, stack_of}
 use Rattle.stack_walk.specs.Walk.{callers_in}
 use Rattle.stack_walk.proofs.CallerLemmas.{are_callers, callers_are, climbs}
 use Rattle.stack_walk.proofs.walk.climb.Goals as goal

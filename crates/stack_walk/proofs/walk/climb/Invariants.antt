@@ -1,7 +1,6 @@
 -- The frames so far and the callers of the last one are those of the first, and each new one stands higher on the stack.
 use Rattle.std.proofs.Common.{◌≡◌, ◌+◌, ◌-◌, ◌++◌, ◌∷◌}
-use Rattle.stack_walk.specs.Climb.{outermost}
-use Rattle.stack_walk.specs.Frames.{stack_of}
+use Rattle.stack_walk.specs.Frames.{outermost, stack_of}
 use Rattle.stack_walk.specs.Walk.{callers_in}
 use Rattle.stack_walk.proofs.CallerLemmas.{end_of}
 use Rattle.stack_walk.proofs.walk.climb.Given as goal

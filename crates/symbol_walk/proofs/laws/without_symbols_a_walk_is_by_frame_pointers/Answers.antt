@@ -2,9 +2,8 @@
 use Rattle.std.proofs.Common.{List, Option, ap}
 use Rattle.minidump.specs.declared.MinidumpContext.{MinidumpContext}
 use Rattle.stack_walk.specs.declared.frame.StackFrame.{StackFrame}
-use Rattle.stack_walk.specs.Climb.{outermost}
-use Rattle.stack_walk.specs.Frames.{StackValue, link_in, scan}
-use Rattle.stack_walk.specs.WalkEnd.{walk_end}
+use Rattle.stack_walk.specs.Frames.{StackValue, link_in, outermost, scan}
+use Rattle.stack_walk.specs.Walk.{walk_end}
 use Rattle.breakpad_symbols.specs.SymbolFile.{SymbolsValue}
 use Rattle.symbol_walk.specs.declared.walk.SymbolWalkEnd.TheVariants.{Walk}
 use Rattle.symbol_walk.specs.Registers.{register_table}

@@ -1,5 +1,5 @@
 -- A word more, with a candidate or without; or as many candidates as are asked for.
-use Rattle.std.proofs.Common.{append-nil, arith}
+use Rattle.std.proofs.Common.{◌≡◌, ◌+◌, ◌-◌, append-nil, arith}
 use Rattle.stack_walk.specs.Frames.{stack_of}
 use Rattle.stack_walk.proofs.FoundLemmas.{words_enough, words_more}
 use Rattle.stack_walk.proofs.scan.Found.add_words.Goals as goal
@@ -19,8 +19,10 @@ loop-index-preserved c before is =
 pub returns-then-len-limit : goal.returns-then-len-limit
 returns-then-len-limit c before is =
     let was = c.loop-index.invariant before is in
+    let i = c.loop-index.index in
+    let all : i + (c.args.words.1 - i) ≡ c.args.words.1 = omega arith in
     record {
       seen = was.seen;
-      frames = words_enough (stack_of c.args.stack.now) c.args.limit before c.args.words.0 c.loop-index.index c.args.words.1 _ (omega arith)
-          (omega (arith, c.if-len-limit.true, c.len.ensures)) was.frames;
+      frames = rw all at (words_enough (stack_of c.args.stack.now) c.args.limit before c.args.words.0 i (c.args.words.1 - i) _
+          (omega (arith, c.if-len-limit.true, c.len.ensures)) was.frames);
     }
