@@ -32,7 +32,7 @@ use Rattle.crash_json.specs.Modules.{module_json, module_members, modules_json, 
 use Rattle.crash_json.specs.Point.{point_json, register_json, word_json}
 use Rattle.crash_json.specs.Records.{assertion_json, boot_args_json, handle_json, kind_json, mac_crash_json, mac_record_json, soft_depth, soft_json}
 use Rattle.crash_json.specs.ReportValue.{ReportValue}
-use Rattle.crash_json.specs.Report.{error_json, json_of, line_json, path_members, pid_members, stream_members, system_members}
+use Rattle.crash_json.specs.Report.{error_json, json_of, line_json, path_members, before_threads, stream_members, system_members}
 use Rattle.crash_json.specs.System.{environment_members, limit_json, limits_json, release_json, system_json, variable_json}
 use Rattle.crash_json.specs.Threads.{crashing_json, index_members, range_json, short_json, thread_json, thread_members, threads_json}
 
@@ -114,7 +114,7 @@ exception_depth (Err e) = omega arith
 
 address_members_depth : (a : AddressFacts) → members_depth (members_of (address_members a)) ≤ 1
 unfolding address_members memory_json
-address_members_depth a = omega (arith, flat, or_null_within memory_json 1 (λ m. omega arith))
+address_members_depth a = omega (arith, flat, or_null_within memory_json 1 (λ m. omega (arith, flat)))
 
 damage_depth : (d : Damage) → depth (damage_json d) ≤ 1
 unfolding damage_object
@@ -201,10 +201,10 @@ records_within r =
       minidump_depth,
     )
 
-rest_within : (r : ReportValue) → members_depth (members_of (pid_members r.crash
+rest_within : (r : ReportValue) → members_depth (members_of (before_threads r.crash
     ++ ((codes "threads", threads_json r) ∷ (codes "crashing_thread", crashing_json r)
     ∷ (stream_members r.crash ++ ((codes "minidump", minidump_json r) ∷ []))))) ≤ soft_depth
-unfolding pid_members threads_json unloaded_json
+unfolding before_threads threads_json unloaded_json
 rest_within r =
     omega (
       arith,

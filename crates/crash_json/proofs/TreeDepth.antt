@@ -1,7 +1,7 @@
 -- How deep values nest: the parts of objects and arrays, each within a bound.
 use Rattle.std.specs.List.{enumerate_from}
-use Rattle.std.proofs.Common.{◌≤◌, ◌++◌, ℕ, suc, max, List, [], ◌∷◌, Option, Some, None, arith, map}
-use Rattle.json.specs.Json.{Json, string}
+use Rattle.std.proofs.Common.{◌≤◌, ◌++◌, ℕ, Bool, suc, max, List, [], ◌∷◌, Option, Some, None, arith, map}
+use Rattle.json.specs.Json.{Json, boolean, string}
 use Rattle.json.specs.Tree.{depth, items_depth, members_depth}
 use Rattle.crash_json.specs.Tree.{array_of, count, hex_string, items_of, members_of, numbered_array_of, or_null}
 
@@ -10,7 +10,7 @@ pub or_null_within : {X : Type 0} (json : X → Json) (bound : ℕ) → ((x : X)
 or_null_within json bound each None = omega arith
 or_null_within json bound each (Some x) = each x
 
--- a text, a number in hexadecimal and one in decimal, each of which may be `null`
+-- a text, a number in hexadecimal, one in decimal and a truth value, each of which may be `null`
 pub flat_text : (o : Option (List ℕ)) → depth (or_null string o) ≤ 0
 flat_text o = or_null_within string 0 (λ x. omega arith) o
 
@@ -20,7 +20,10 @@ flat_hex o = or_null_within hex_string 0 (λ x. omega arith) o
 pub flat_count : (o : Option ℕ) → depth (or_null count o) ≤ 0
 flat_count o = or_null_within count 0 (λ x. omega arith) o
 
-pub ruleset flat = (flat_text, flat_hex, flat_count)
+pub flat_boolean : (o : Option Bool) → depth (or_null boolean o) ≤ 0
+flat_boolean o = or_null_within boolean 0 (λ b. omega arith) o
+
+pub ruleset flat = (flat_text, flat_hex, flat_count, flat_boolean)
 
 -- the items of an array
 items_within : {X : Type 0} (json : X → Json) (bound : ℕ) → ((x : X) → depth (json x) ≤ bound) → (xs : List X) → items_depth (items_of (map json xs)) ≤ bound

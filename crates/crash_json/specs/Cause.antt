@@ -9,13 +9,13 @@ use Rattle.minidump.specs.Below.Bytes.Text16.{text_before_nul}
 use Rattle.minidump.specs.Below.Format.Error.{name_of_error}
 use Rattle.crash_threads.specs.declared.addresses.AddressFacts.{AddressFacts}
 use Rattle.crash_threads.specs.declared.addresses.AddressMemory.{AddressMemory}
-use Rattle.crash_threads.specs.declared.addresses.RegionState.{RegionState}
-use Rattle.crash_threads.specs.declared.addresses.RegionState.TheVariants.{Committed, Free, Reserved}
+use Rattle.crash_threads.specs.declared.addresses.AddressMemory.TheVariants.{Committed, Free, Reserved}
 use Rattle.crash_threads.specs.declared.contexts.ContextProblem.{ContextProblem}
 use Rattle.crash_threads.specs.declared.contexts.ContextProblem.TheVariants.{NoSystem, NotAccepted, Outside}
 use Rattle.crash_streams.specs.declared.records.Access.{Access}
 use Rattle.crash_streams.specs.declared.records.Access.TheVariants.{Execute, Read, Write}
 use Rattle.crash_streams.specs.declared.records.Sender.{Sender}
+use Rattle.crash_threads.specs.Addresses.{rights_of}
 use Rattle.crash_threads.specs.Cause.{ExceptionValue, counted_exception}
 use Rattle.crash_threads.specs.Contexts.{unaccepted_size}
 use Rattle.crash.specs.Crash.{CrashValue}
@@ -86,19 +86,19 @@ exception_json read = let e = result_ok read in object_of (
 -- ---- the address
 
 -- the word for the state of memory
-abbrev pub state_name : RegionState → List ℕ
+abbrev pub state_name : AddressMemory → List ℕ
 state_name Free = codes "free"
 state_name Reserved = codes "reserved"
-state_name Committed = codes "committed"
+state_name (Committed _) = codes "committed"
 
--- the memory that contains an address
+-- the memory that contains an address: null for each right, unless it is committed
 unfoldable pub memory_json : AddressMemory → Json
-memory_json m = object_of (
-    (codes "state", string (state_name m.state))
-    ∷ (codes "is_readable", boolean m.is_readable)
-    ∷ (codes "is_writable", boolean m.is_writable)
-    ∷ (codes "is_executable", boolean m.is_executable)
-    ∷ (codes "is_guarded", boolean m.is_guarded)
+memory_json m = let rights = rights_of m in object_of (
+    (codes "state", string (state_name m))
+    ∷ (codes "is_readable", or_null boolean (option_map (λ r. r.is_readable) rights))
+    ∷ (codes "is_writable", or_null boolean (option_map (λ r. r.is_writable) rights))
+    ∷ (codes "is_executable", or_null boolean (option_map (λ r. r.is_executable) rights))
+    ∷ (codes "is_guarded", or_null boolean (option_map (λ r. r.is_guarded) rights))
     ∷ [])
 
 -- the index of a module and the offset in it

@@ -30,9 +30,10 @@ system_members c =
     ∷ (codes "main_module", or_null count (main_module c.modules.loaded))
     ∷ []
 
--- the modules that were unloaded, and the process with the number of its threads
-unfoldable pub pid_members : CrashValue → List (List ℕ × Json)
-pid_members c =
+-- what stands between the modules and the threads: the modules that were unloaded, the id of the
+-- process, and how many threads it has
+unfoldable pub before_threads : CrashValue → List (List ℕ × Json)
+before_threads c =
     (codes "unloaded_modules", array_of unloaded_json c.modules.unloaded)
     ∷ (codes "pid", or_null count c.process.id)
     ∷ (codes "thread_count", count (length c.threads.threads))
@@ -55,7 +56,7 @@ abbrev pub line_json : ReportValue → Json
 line_json r = object_of (path_members r.path
     ++ (system_members r.crash
     ++ ((codes "modules", modules_json r.symbols r.crash.modules.loaded)
-    ∷ (pid_members r.crash
+    ∷ (before_threads r.crash
     ++ ((codes "threads", threads_json r)
     ∷ (codes "crashing_thread", crashing_json r)
     ∷ (stream_members r.crash ++ ((codes "minidump", minidump_json r) ∷ [])))))))

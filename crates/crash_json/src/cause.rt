@@ -14,8 +14,8 @@ ghost use Rattle.crash_json.specs.Cause.{place_members, problem_name, sender_jso
 
 use crate::tree::{Decimal, Members, Put, ToJson, members};
 use crash::{
-    Access, AddressFacts, AddressMemory, ContextProblem, Crash, CrashCause, CrashException,
-    RegionState, Sender, SignalCode, unaccepted_size,
+    Access, AddressFacts, AddressMemory, ContextProblem, Crash, CrashCause, CrashException, Sender,
+    SignalCode, unaccepted_size,
 };
 use json::Writer;
 use minidump::own_streams::text_before_nul;
@@ -124,11 +124,11 @@ impl ToJson for Error {
 impl ToJson for Access {
     ghost json = { λ access. string (access_name access) };
 
-    fn put(&self, out: &mut Writer, alloc: Global) -> Put {
+    fn put(&self, out: &mut Writer, _alloc: Global) -> Put {
         match *self {
-            Access::Read => "read".put(out, alloc),
-            Access::Write => "write".put(out, alloc),
-            Access::Execute => "execute".put(out, alloc),
+            Access::Read => out.string("read"),
+            Access::Write => out.string("write"),
+            Access::Execute => out.string("execute"),
         }
     }
 }
@@ -136,11 +136,11 @@ impl ToJson for Access {
 impl ToJson for ContextProblem {
     ghost json = { λ problem. string (problem_name problem) };
 
-    fn put(&self, out: &mut Writer, alloc: Global) -> Put {
+    fn put(&self, out: &mut Writer, _alloc: Global) -> Put {
         match *self {
-            ContextProblem::Outside => "outside".put(out, alloc),
-            ContextProblem::NoSystem => "no system".put(out, alloc),
-            ContextProblem::NotAccepted { .. } => "not accepted".put(out, alloc),
+            ContextProblem::Outside => out.string("outside"),
+            ContextProblem::NoSystem => out.string("no system"),
+            ContextProblem::NotAccepted { .. } => out.string("not accepted"),
         }
     }
 }
@@ -215,25 +215,25 @@ impl ToJson for AddressMemory {
 
     #[tactic(auto, unfolding(crate::specs::Cause::memory_json))]
     fn put(&self, out: &mut Writer, alloc: Global) -> Put {
+        let rights = self.rights();
         members! {
-            "state": self.state,
-            "is_readable": self.is_readable,
-            "is_writable": self.is_writable,
-            "is_executable": self.is_executable,
-            "is_guarded": self.is_guarded,
+            "state": state_name(*self),
+            "is_readable": rights.map(|rights| rights.is_readable),
+            "is_writable": rights.map(|rights| rights.is_writable),
+            "is_executable": rights.map(|rights| rights.is_executable),
+            "is_guarded": rights.map(|rights| rights.is_guarded),
         }
         .put_object(out, alloc)
     }
 }
 
-impl ToJson for RegionState {
-    ghost json = { λ state. string (state_name state) };
-
-    fn put(&self, out: &mut Writer, alloc: Global) -> Put {
-        match *self {
-            RegionState::Free => "free".put(out, alloc),
-            RegionState::Reserved => "reserved".put(out, alloc),
-            RegionState::Committed => "committed".put(out, alloc),
-        }
+// Returns the word for the state of memory.
+fn state_name(memory: AddressMemory) -> &'static str
+    ensures { result.now ≡ state_name memory }
+{
+    match memory {
+        AddressMemory::Free => "free",
+        AddressMemory::Reserved => "reserved",
+        AddressMemory::Committed(_) => "committed",
     }
 }

@@ -144,10 +144,10 @@ impl ToJson for UnreadableModule {
 impl ToJson for ModulePart {
     ghost json = { λ part. string (part_name part) };
 
-    fn put(&self, out: &mut Writer, alloc: Global) -> Put {
+    fn put(&self, out: &mut Writer, _alloc: Global) -> Put {
         match *self {
-            ModulePart::Name => "name".put(out, alloc),
-            ModulePart::CodeView => "code_view".put(out, alloc),
+            ModulePart::Name => out.string("name"),
+            ModulePart::CodeView => out.string("code_view"),
         }
     }
 }

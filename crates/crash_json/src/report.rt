@@ -3,7 +3,7 @@ ghost use Rattle.std.specs.Option.{option_copied};
 ghost use Rattle.crash.specs.Crash.{crash_of};
 ghost use Rattle.crash_json.specs.Tree.{Adds};
 ghost use Rattle.crash_json.specs.ReportValue.{report_of};
-ghost use Rattle.crash_json.specs.Report.{path_members, pid_members, stream_members, system_members};
+ghost use Rattle.crash_json.specs.Report.{path_members, before_threads, stream_members, system_members};
 
 use crate::JsonLimits;
 use crate::cause::CrashInfo;
@@ -37,7 +37,7 @@ impl ToJson for Report<'_, '_, '_, '_> {
         add_system(self.crash, out, alloc)?;
         out.key("modules")?;
         put_modules(self, out, alloc)?;
-        add_pid(self.crash, out, alloc)?;
+        add_before_threads(self.crash, out, alloc)?;
         out.key("threads")?;
         put_threads(self, out, alloc)?;
         out.key("crashing_thread")?;
@@ -73,9 +73,10 @@ fn add_system(crash: &Crash<'_>, out: &mut Writer, alloc: Global) -> Put
     .add(out, alloc)
 }
 
-// Adds the modules that were unloaded, and the process with the number of its threads.
-fn add_pid(crash: &Crash<'_>, out: &mut Writer, alloc: Global) -> Put
-    ensures { Adds result out.old out.new (pid_members (crash_of crash.now)) }
+// Adds what stands between the modules and the threads: the modules that were unloaded, the id of the
+// process, and how many threads it has.
+fn add_before_threads(crash: &Crash<'_>, out: &mut Writer, alloc: Global) -> Put
+    ensures { Adds result out.old out.new (before_threads (crash_of crash.now)) }
 {
     members! {
         "unloaded_modules": &crash.modules.unloaded,

@@ -15,8 +15,8 @@ use Rattle.crash_streams.specs.Records.{signal_code_name}
 use Rattle.minidump.specs.declared.Error.{Error}
 use Rattle.crash_threads.specs.Counting.{counted}
 use Rattle.crash.specs.Crash.{CrashValue}
-use Rattle.crash_lines.specs.Words.{error_words, hex_unless, id_words, or_empty, text_after}
-use Rattle.crash_lines.specs.Words.{text_if, words_or}
+use Rattle.crash_lines.specs.Words.{decimal_if, error_words, hex_unless, id_words, or_empty}
+use Rattle.crash_lines.specs.Words.{text_after, text_if, words_or}
 use Rattle.crash_lines.specs.Lines.{if_some, table}
 use Rattle.crash_lines.specs.Point.{address_line, point_lines, registers_lines}
 
@@ -29,11 +29,6 @@ access_words (Some Write) = codes ", access write"
 access_words (Some Execute) = codes ", access execute"
 access_words None = []
 
--- the user of the process that sent a signal
-abbrev pub user_words : Option ℕ → List ℕ
-user_words (Some user) = concat (codes ", user " ∷ decimal user ∷ [])
-user_words None = []
-
 -- the process that sent a signal, by its id
 abbrev pub process_words : Option ℕ → List ℕ
 process_words (Some id) = codes ", sent by process " ++ id_words id
@@ -42,7 +37,7 @@ process_words None = codes ", sent by an unknown process"
 -- the process, its user, and how it was sent, by the name of its `si_code`
 abbrev pub sender_words : Option Sender → List ℕ
 sender_words (Some s) = process_words s.process
-    ++ (user_words s.user ++ concat (codes ", " ∷ signal_code_name s.code ∷ []))
+    ++ (decimal_if (codes ", user ") s.user [] ++ concat (codes ", " ∷ signal_code_name s.code ∷ []))
 sender_words None = []
 
 -- a parameter after another one
@@ -55,8 +50,8 @@ parameters_words [] = []
 parameters_words (first ∷ others) = concat (codes ", parameters " ∷ hex first ∷ [])
     ++ flat_map parameter_words others
 
--- why the context of an exception gives no registers, with its size, unless it has no bytes. That
--- the system is unknown is said elsewhere
+-- why the context of an exception gives no registers: it is outside the file, or it isn't accepted, and
+-- then its size, where that isn't 0. That the system is unknown is said elsewhere
 abbrev pub context_words : Option ContextProblem → List ℕ
 context_words (Some Outside) = codes ", its context is outside the file"
 context_words (Some (NotAccepted size)) = if size == 0 then codes ", no context that can be read"

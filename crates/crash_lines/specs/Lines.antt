@@ -12,9 +12,8 @@ use Rattle.minidump.specs.declared.Error.{Error}
 -- whether a character is printed as an escape: a control character, a line or paragraph separator,
 -- a mark of direction
 abbrev pub is_control : ℕ → Bool
-is_control c = is_in_range 0 0x1f c || is_in_range 0x7f 0x9f c || c == 0x61c || is_in_range 0x200e
-    0x200f c
-    || is_in_range 0x2028 0x202e c || is_in_range 0x2066 0x2069 c
+is_control c = is_in_range 0 0x1f c || is_in_range 0x7f 0x9f c || c == 0x61c
+    || is_in_range 0x200e 0x200f c || is_in_range 0x2028 0x202e c || is_in_range 0x2066 0x2069 c
 
 -- the escape of a character: its number in hexadecimal
 abbrev pub escape : ℕ → List ℕ
@@ -52,6 +51,11 @@ row_of (b ∷ bs) = (b ∷ bs) ∷ []
 -- the lines of rows, each of the words that it is made of: none for a row without any
 abbrev pub table : List (List (List ℕ)) → List (List ℕ)
 table rows = flat_map (λ words. row_of (concat words)) rows
+
+-- lines below a heading, and neither where there are no lines
+abbrev pub headed : List ℕ → List (List ℕ) → List (List ℕ)
+headed heading [] = []
+headed heading (line ∷ lines) = heading ∷ line ∷ lines
 
 -- the lines for a value, and none where there is none
 abbrev pub if_some : {X : Type 0} → (X → List (List ℕ)) → Option X → List (List ℕ)

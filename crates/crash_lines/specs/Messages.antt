@@ -29,9 +29,9 @@ assertion_line a = concat (codes "assertion " ∷ kind_words a._type
     ∷ text_after (codes ", function ") (text_or_empty a.function)
     ∷ text_after (codes ", file ") (text_or_empty a.file) ∷ codes ", line " ∷ decimal a.line ∷ [])
 
--- the line of an annotation without a name
+-- the line of an annotation of a list, which has no name
 unfoldable pub unnamed_row : List ℕ → List ℕ
-unnamed_row text = concat (codes "annotation " ∷ text ∷ [])
+unnamed_row text = concat (codes "list annotation " ∷ text ∷ [])
 
 -- the line of an annotation after words: its name and its text
 unfoldable pub annotation_row : List ℕ → List ℕ × List ℕ → List ℕ

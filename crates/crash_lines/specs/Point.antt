@@ -1,16 +1,16 @@
 -- The lines of where the thread that crashed stands: an address, the registers, the code and the words
 -- of the stack.
 use Rattle.std.specs.Prelude.{ℕ, List, [], ◌∷◌, codes, not, slice_get, Option, Some, None, ◌++◌}
-use Rattle.std.specs.Prelude.{map, min, if◌then◌else◌, is_some, ◌&&◌, Bool, true, length, nat_lt}
-use Rattle.std.specs.List.{concat, flat_map, list_any}
+use Rattle.std.specs.Prelude.{map, min, if◌then◌else◌, is_some, ◌&&◌, Bool, true}
+use Rattle.std.specs.List.{concat, flat_map}
 use Rattle.std.specs.Option.{option_and_then, option_map, option_map_or}
 use Rattle.std.specs.Fmt.{decimal}
 use Rattle.minidump.specs.Below.Bytes.Piece.{hex, left, wide_hex}
 use Rattle.crash_threads.specs.declared.addresses.AddressFacts.{AddressFacts}
 use Rattle.crash_threads.specs.declared.addresses.AddressMemory.{AddressMemory}
-use Rattle.crash_threads.specs.declared.addresses.RegionState.{RegionState}
-use Rattle.crash_threads.specs.declared.addresses.RegionState.TheVariants.{Committed, Free}
-use Rattle.crash_threads.specs.declared.addresses.RegionState.TheVariants.{Reserved}
+use Rattle.crash_threads.specs.declared.addresses.AddressMemory.TheVariants.{Committed, Free}
+use Rattle.crash_threads.specs.declared.addresses.AddressMemory.TheVariants.{Reserved}
+use Rattle.crash_threads.specs.declared.addresses.MemoryRights.{MemoryRights}
 use Rattle.crash.specs.Crash.{CrashValue}
 use Rattle.minidump.specs.Below.Contexts.Register.{register_text}
 use Rattle.crash_threads.specs.declared.contexts.ContextOrigin.{ContextOrigin}
@@ -19,11 +19,11 @@ use Rattle.crash_threads.specs.declared.contexts.ShortContext.{ShortContext}
 use Rattle.crash_threads.specs.Contexts.{ContextValue}
 use Rattle.crash_threads.specs.Threads.{crashed_thread}
 use Rattle.crash_threads.specs.declared.point.StackWord.{StackWord}
-use Rattle.crash_threads.specs.Addresses.{is_placed}
+use Rattle.crash_threads.specs.Addresses.{is_executable, is_placed}
 use Rattle.crash_process.specs.Modules.{LoadedValue}
 use Rattle.crash_threads.specs.Point.{PointValue}
 use Rattle.crash_lines.specs.Words.{hex_if, id_if, place_text, text_if, words_or}
-use Rattle.crash_lines.specs.Lines.{if_some, table}
+use Rattle.crash_lines.specs.Lines.{headed, if_some, table}
 
 -- ---- an address
 
@@ -37,21 +37,21 @@ abbrev pub thread_id : CrashValue → Option ℕ → Option ℕ
 thread_id c index = option_map (λ t. t.id) (option_and_then (slice_get c.threads.threads) index)
 
 -- a letter for each right of memory, a dash for each that is absent, and whether it is guarded
-abbrev pub rights_words : AddressMemory → List ℕ
-rights_words m = concat (codes ", memory " ∷ words_or m.is_readable (codes "r") (codes "-")
-    ∷ words_or m.is_writable (codes "w") (codes "-")
-    ∷ words_or m.is_executable (codes "x") (codes "-")
-    ∷ words_or m.is_guarded (codes " guarded") [] ∷ [])
+abbrev pub rights_words : MemoryRights → List ℕ
+rights_words r = concat (codes ", memory " ∷ words_or r.is_readable (codes "r") (codes "-")
+    ∷ words_or r.is_writable (codes "w") (codes "-")
+    ∷ words_or r.is_executable (codes "x") (codes "-")
+    ∷ words_or r.is_guarded (codes " guarded") [] ∷ [])
 
--- its memory, by the state and then by the rights
-abbrev pub state_words : RegionState → AddressMemory → List ℕ
-state_words Free m = codes ", memory free"
-state_words Reserved m = codes ", memory reserved"
-state_words Committed m = rights_words m
+-- the memory that contains an address: its state, or its rights where it is committed
+abbrev pub state_words : AddressMemory → List ℕ
+state_words Free = codes ", memory free"
+state_words Reserved = codes ", memory reserved"
+state_words (Committed rights) = rights_words rights
 
--- the same, where it is known which memory contains the address
+-- the same, where it is known
 abbrev pub memory_words : Option AddressMemory → List ℕ
-memory_words (Some m) = state_words m.state m
+memory_words (Some m) = state_words m
 memory_words None = []
 
 -- the line of an address after its name: its module and the offset in it, or these words where no
@@ -128,35 +128,34 @@ abbrev pub names_after : List ℕ → List (List ℕ) → List ℕ
 names_after words [] = []
 names_after words (name ∷ names) = words ++ flat_map set_words (name ∷ names)
 
--- a value of registers lies in a module or a stack
-abbrev pub has_placed : List (List ℕ × AddressFacts) → Bool
-has_placed registers = list_any (λ r. is_placed r.1) registers
-
--- the line of the flags and the segments, that of the flags that are set, where there are any, and the
--- heading of the registers whose values lie in a module or a stack, where there are any
-unfoldable pub flags_and_heading : PointValue → List (List ℕ)
-flags_and_heading p = table (
+-- the line of the flags and the segments, and that of the flags that are set, where there are any
+unfoldable pub flags_lines : PointValue → List (List ℕ)
+flags_lines p = table (
     (codes "  " ∷ flat_map flag_words p.flags ∷ [])
     ∷ (names_after (codes "    flags set:") p.set_flags ∷ [])
-    ∷ (words_or (has_placed p.registers) (codes "registers in a module or a stack") [] ∷ [])
     ∷ [])
 
 -- ---- the registers in a module or a stack
 
 -- the line of a register, where its value lies in a module or a stack
-abbrev pub placed_lines : CrashValue → List ℕ × AddressFacts → List (List ℕ)
-placed_lines c r = if is_placed r.1 then address_line c (codes "    ") r.0 [] r.1 ∷ [] else []
+abbrev pub if_placed : CrashValue → List ℕ × AddressFacts → List (List ℕ)
+if_placed c r = if is_placed r.1 then address_line c (codes "    ") r.0 [] r.1 ∷ [] else []
 
--- the flags, and the registers whose values lie there
+-- the registers whose values lie there, below a heading
+abbrev pub placed_lines : CrashValue → List (List ℕ × AddressFacts) → List (List ℕ)
+placed_lines c registers =
+    headed (codes "registers in a module or a stack") (flat_map (if_placed c) registers)
+
+-- the flags, and these registers
 abbrev pub processor_lines : CrashValue → PointValue → List (List ℕ)
-processor_lines c p = flags_and_heading p ++ flat_map (placed_lines c) p.registers
+processor_lines c p = flags_lines p ++ placed_lines c p.registers
 
 -- ---- the instruction pointer
 
 -- an address is ordinary for code: a module has it, and its memory may be run as code or isn't
 -- known
 abbrev pub is_ordinary : AddressFacts → Bool
-is_ordinary a = is_some a.«module» && option_map_or (λ m. m.is_executable) a.memory true
+is_ordinary a = is_some a.«module» && option_map_or is_executable a.memory true
 
 -- the line of an instruction pointer that isn't ordinary
 abbrev pub instruction_lines : CrashValue → AddressFacts → List (List ℕ)
@@ -175,12 +174,9 @@ code_at address [] = []
 code_at address (b ∷ bs) = concat (codes "bytes at " ∷ hex address ∷ codes ":"
     ∷ flat_map byte_words (b ∷ bs) ∷ [])
 
--- the line of the bytes at the instruction pointer, and the heading of the words, where there are any
-unfoldable pub code_and_heading : PointValue → List (List ℕ)
-code_and_heading p = table (
-    (code_at p.instruction.address p.code ∷ [])
-    ∷ (words_or (nat_lt 0 (length p.words)) (codes "words at the stack pointer") [] ∷ [])
-    ∷ [])
+-- the line of the bytes at the instruction pointer, where there are any
+unfoldable pub code_lines : PointValue → List (List ℕ)
+code_lines p = table ((code_at p.instruction.address p.code ∷ []) ∷ [])
 
 -- ---- the words
 
@@ -189,9 +185,15 @@ unfoldable pub word_line : List LoadedValue → StackWord → List ℕ
 word_line modules w = concat (codes "    " ∷ hex w.address ∷ codes " " ∷ hex w.value
     ∷ place_text modules [] w.«module» ∷ [])
 
--- the code, and the words of the stack
+-- the words of the stack, below a heading
+abbrev pub words_lines : List LoadedValue → List StackWord → List (List ℕ)
+words_lines modules words = headed (codes "words at the stack pointer") (map (word_line modules) words)
+
+-- the code, and these words
 abbrev pub memory_lines : List LoadedValue → PointValue → List (List ℕ)
-memory_lines modules p = code_and_heading p ++ map (word_line modules) p.words
+memory_lines modules p = code_lines p ++ words_lines modules p.words
+
+-- ---- all of it
 
 -- where the thread that crashed stands
 abbrev pub point_lines : CrashValue → List (List ℕ)

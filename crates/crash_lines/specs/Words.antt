@@ -3,7 +3,7 @@ use Rattle.std.specs.Prelude.{ℕ, Bool, List, [], ◌∷◌, Option, Some, None
 use Rattle.std.specs.Prelude.{if◌then◌else◌, ◌++◌, ◌==◌, slice_get, unwrap_or}
 use Rattle.std.specs.Fmt.{decimal}
 use Rattle.std.specs.List.{concat}
-use Rattle.std.specs.Option.{option_map_or}
+use Rattle.std.specs.Option.{option_map, option_map_or}
 use Rattle.std.specs.Str.Lossy.{utf8_lossy}
 use Rattle.minidump.specs.declared.Error.{Error}
 use Rattle.minidump.specs.Below.Bytes.Piece.{hex}
@@ -22,34 +22,6 @@ words_or is_so words others = if is_so then words else others
 
 -- ---- the words that a part of a row writes
 
--- a number in decimal between words, where there is one
-abbrev pub decimal_if : List ℕ → Option ℕ → List ℕ → List ℕ
-decimal_if before (Some n) after = concat (before ∷ decimal n ∷ after ∷ [])
-decimal_if before None after = []
-
--- a count between words, and nothing for 0
-abbrev pub count_if : List ℕ → ℕ → List ℕ → List ℕ
-count_if before n after = if n == 0 then [] else concat (before ∷ decimal n ∷ after ∷ [])
-
--- a number in hexadecimal after words, where there is one
-abbrev pub hex_if : List ℕ → Option ℕ → List ℕ
-hex_if words (Some n) = concat (words ∷ hex n ∷ [])
-hex_if words None = []
-
--- the same, where it isn't this one
-abbrev pub hex_unless : ℕ → List ℕ → Option ℕ → List ℕ
-hex_unless known words (Some n) = if n == known then [] else concat (words ∷ hex n ∷ [])
-hex_unless known words None = []
-
--- the id of a process or a thread, in decimal and in hexadecimal
-abbrev pub id_words : ℕ → List ℕ
-id_words id = concat (decimal id ∷ codes " (" ∷ hex id ∷ codes ")" ∷ [])
-
--- the same after words, where it is known
-abbrev pub id_if : List ℕ → Option ℕ → List ℕ
-id_if words (Some id) = words ++ id_words id
-id_if words None = []
-
 -- a text between words, where there is one
 abbrev pub text_if : List ℕ → Option (List ℕ) → List ℕ → List ℕ
 text_if before (Some text) after = concat (before ∷ text ∷ after ∷ [])
@@ -62,13 +34,37 @@ text_after words (b ∷ bs) = concat (words ∷ (b ∷ bs) ∷ [])
 
 -- a text of Linux after words, where there is one, with U+FFFD for what isn't UTF-8
 abbrev pub lossy_if : List ℕ → Option (List ℕ) → List ℕ
-lossy_if words (Some text) = concat (words ∷ utf8_lossy text ∷ [])
-lossy_if words None = []
+lossy_if words text = text_if words (option_map utf8_lossy text) []
 
 -- the name of an error after a colon, where there is one
 abbrev pub error_words : Option Error → List ℕ
-error_words (Some error) = concat (codes ": " ∷ name_of_error error ∷ [])
-error_words None = []
+error_words error = text_if (codes ": ") (option_map name_of_error error) []
+
+-- a number in decimal between words, where there is one
+abbrev pub decimal_if : List ℕ → Option ℕ → List ℕ → List ℕ
+decimal_if before n after = text_if before (option_map decimal n) after
+
+-- a count between words, and nothing for 0
+abbrev pub count_if : List ℕ → ℕ → List ℕ → List ℕ
+count_if before n after = if n == 0 then [] else decimal_if before (Some n) after
+
+-- a number in hexadecimal after words, where there is one
+abbrev pub hex_if : List ℕ → Option ℕ → List ℕ
+hex_if words n = text_if words (option_map hex n) []
+
+-- the same, where it isn't this one
+abbrev pub hex_unless : ℕ → List ℕ → Option ℕ → List ℕ
+hex_unless known words (Some n) = if n == known then [] else hex_if words (Some n)
+hex_unless known words None = []
+
+-- the id of a process or a thread, in decimal and in hexadecimal
+abbrev pub id_words : ℕ → List ℕ
+id_words id = concat (decimal id ∷ codes " (" ∷ hex id ∷ codes ")" ∷ [])
+
+-- the same after words, where it is known
+abbrev pub id_if : List ℕ → Option ℕ → List ℕ
+id_if words (Some id) = words ++ id_words id
+id_if words None = []
 
 -- the words for an offset in a module
 abbrev pub in_module : ℕ → List ℕ → Option LoadedValue → List ℕ

@@ -55,7 +55,7 @@ fn push_counted(out: &mut String, crash: &Crash<'_>, exception: &CrashException)
     push_point(out, crash)
 }
 
-// Appends the exceptions and which of them counts, if there are several.
+// Appends the exceptions, below their number and which of them counts, if there are several.
 fn push_several(
     out: &mut String,
     exceptions: &[Result<CrashException, Error>],

@@ -10,9 +10,9 @@ ghost use Rattle.minidump.specs.Promise.{mac_crash_info_stream, soft_errors_stre
 ghost use Rattle.crash_streams.specs.Contents.{message_streams_of};
 ghost use Rattle.crash_lines.specs.Lines.{Adds, if_ok};
 ghost use Rattle.crash_lines.specs.Messages.{annotation_row, assertion_line, crashpad_lines};
-ghost use Rattle.crash_lines.specs.Messages.{kind_words, mac_lines, messages_lines, module_lines, module_row};
-ghost use Rattle.crash_lines.specs.Messages.{object_row, record_lines, report_line, simple_row};
-ghost use Rattle.crash_lines.specs.Messages.{unnamed_row};
+ghost use Rattle.crash_lines.specs.Messages.{kind_words, mac_lines, messages_lines, module_lines};
+ghost use Rattle.crash_lines.specs.Messages.{module_row, object_row, record_lines, report_line};
+ghost use Rattle.crash_lines.specs.Messages.{simple_row, unnamed_row};
 
 use crate::lines::{Added, push_row, push_table};
 use crate::parts::Part::{Decimal, Guid, HexIf, Said, Units, Words};
@@ -63,8 +63,8 @@ fn kind_words(kind: u32) -> &'static str
     }
 }
 
-// Appends the identifiers of Crashpad's report, the annotations of the process, and then those of
-// each module.
+// Appends the identifiers of Crashpad's report and of its client, the annotations of the process, and
+// then those of each module.
 fn push_crashpad(out: &mut String, found: &Result<MinidumpCrashpadInfo, Error>) -> Added
     ensures { Adds out.old out.new
         (if_ok crashpad_lines (map_ok crashpad_info_stream.value found.now)) result }
@@ -93,7 +93,7 @@ fn push_report(out: &mut String, raw: &MINIDUMP_CRASHPAD_INFO) -> Added
     ])
 }
 
-// Appends the index of a module and its annotations.
+// Appends the annotations of a module, below a line with its index.
 fn push_module(out: &mut String, module: &MinidumpModuleCrashpadInfo) -> Added
     ensures { Adds out.old out.new (module_lines (module_of module.now)) result }
 {
@@ -104,12 +104,14 @@ fn push_module(out: &mut String, module: &MinidumpModuleCrashpadInfo) -> Added
 }
 
 // Appends the line before the annotations of a module, by its index.
-#[rattlefmt::skip]
 #[tactic(auto, unfolding(crate::specs::Messages::module_row))]
 fn push_module_row(out: &mut String, index: usize) -> Added
     ensures { Adds out.old out.new (module_row index ∷ []) result }
 {
-    push_row(out, &[Words("annotations of module "), Decimal(index as u64)])
+    push_row(
+        out,
+        &[Words("annotations of module "), Decimal(index as u64)],
+    )
 }
 
 // Appends the lines of texts without names.
@@ -118,7 +120,7 @@ fn push_unnamed(out: &mut String, texts: &[String]) -> Added
     ensures { Adds out.old out.new (map unnamed_row (map string_bytes texts.now)) result }
 {
     for text in texts {
-        push_row(out, &[Words("annotation "), Words(text.as_str())])?;
+        push_row(out, &[Words("list annotation "), Words(text.as_str())])?;
     }
     Ok(())
 }
@@ -160,26 +162,22 @@ fn push_annotation<'t>(
     push_row(out, &[Words(what), Words(name), Words(" = "), Words(text)])
 }
 
-// Appends the lines of the records of macOS's crash information.
+// Appends the lines of the records of macOS's crash information, each with its number.
 fn push_mac(out: &mut String, found: &Result<MinidumpMacCrashInfo, Error>) -> Added
     ensures { Adds out.old out.new
         (if_ok (λ all. mac_lines all.records)
         (map_ok mac_crash_info_stream.value found.now)) result }
 {
     match found {
-        Ok(info) => push_records(out, info.raw.as_slice()),
+        Ok(info) => {
+            let records = info.raw.as_slice();
+            for (number, record) in records.iter().enumerate() {
+                push_record(out, number, record)?;
+            }
+            Ok(())
+        }
         Err(_) => Ok(()),
     }
-}
-
-// Appends the lines of records, each with its number.
-fn push_records(out: &mut String, records: &[RawMacCrashInfo]) -> Added
-    ensures { Adds out.old out.new (mac_lines (map mac_record_of records.now)) result }
-{
-    for (number, record) in records.iter().enumerate() {
-        push_record(out, number, record)?;
-    }
-    Ok(())
 }
 
 // Appends the number of a record, and the texts and the numbers of it that are there.

@@ -1,22 +1,23 @@
 //! The parts of a row, which write themselves.
 ghost use Rattle.std.specs.Prelude.{◌≡◌, ◌++◌, [], ◌∷◌, IfOk, OnOk, Some, map, string_bytes};
 ghost use Rattle.std.specs.List.{concat, flat_map};
+ghost use Rattle.std.specs.Option.{option_map};
 ghost use Rattle.minidump_bytes.specs.LinuxOsStr.{text_of};
 ghost use Rattle.minidump.specs.Below.Bytes.Piece.{piece_text};
+ghost use Rattle.minidump.specs.Below.Records.Assertion.{text_or_empty};
 ghost use Rattle.crash_threads.specs.Cause.{exception_of};
 ghost use Rattle.crash_process.specs.Modules.{loaded_of};
 ghost use Rattle.crash_lines.specs.Point.{code_at, flag_words, memory_words, names_after};
-ghost use Rattle.crash_lines.specs.Point.{register_words};
+ghost use Rattle.crash_lines.specs.Point.{register_words, short_if};
 ghost use Rattle.crash_lines.specs.Parts.{part_text};
 ghost use Rattle.crash_lines.specs.Exceptions.{access_words, context_words, parameters_words};
 ghost use Rattle.crash_lines.specs.Exceptions.{process_words, record_text, sender_words};
-ghost use Rattle.crash_lines.specs.Words.{hex_unless, id_if, lossy_if, place_text, text_after};
-ghost use Rattle.crash_lines.specs.Words.{words_or};
+ghost use Rattle.crash_lines.specs.Words.{hex_unless, id_if, line_text, lossy_if, place_text};
+ghost use Rattle.crash_lines.specs.Words.{stream_text, text_after, words_or};
 
 use crate::lines::Added;
 use crash::{
-    Access, AddressMemory, ContextProblem, CrashException, CrashModule, RegionState, Sender,
-    ShortContext,
+    Access, AddressMemory, ContextProblem, CrashException, CrashModule, Sender, ShortContext,
 };
 use minidump::Error;
 use minidump::format::{GUID, MINIDUMP_STREAM_TYPE};
@@ -73,7 +74,7 @@ pub enum Part<'a> {
     Key(&'a str, &'a str, &'a Option<String>),
     /// The module of an index and the offset in it, or words if there is none.
     Place(&'a [CrashModule], &'a str, Option<(usize, u64)>),
-    /// The state of memory, and its rights if it is committed.
+    /// The state of memory, or its rights if it is committed.
     Memory(Option<AddressMemory>),
     /// What the record of an exception says beside its code and where it happened, and why its context
     /// can't be read.
@@ -102,12 +103,11 @@ impl Part<'_> {
             Part::DecimalIf(_, None, _) | Part::Count(_, 0, _) | Part::HexIf(_, None)
             | Part::Id(_, None) | Part::Text(_, None, _) | Part::TextAfter(_, None)
             | Part::Said(_, None) | Part::Lossy(_, None) | Part::Failed(None)
-            | Part::Key(_, _, None) | Part::Short(_, None) => Ok(()),
+            | Part::Key(_, _, None) => Ok(()),
             Part::Words(words) => out.push_str(words),
             Part::If(is_so, words) => out.push_str(words_or(is_so, words, "")),
             Part::Decimal(n) => push_pieces(out, &[Decimal(n)]),
-            Part::DecimalIf(before, Some(n), after) =>
-                push_between(out, before, Decimal(n), after),
+            Part::DecimalIf(before, Some(n), after) => push_between(out, before, Decimal(n), after),
             Part::Count(before, n, after) => push_between(out, before, Decimal(n as u64), after),
             Part::Hex(n) => push_pieces(out, &[Hex(n)]),
             Part::HexIf(words, Some(n)) => push_between(out, words, Hex(n), ""),
@@ -117,34 +117,21 @@ impl Part<'_> {
                 push_between(out, before, Words(text.as_str()), after),
             Part::TextAfter(words, Some(text)) => push_after(out, words, text.as_str()),
             Part::Said(words, Some(text)) => push_between(out, words, Words(text), ""),
-            Part::Units(words, units) => match text_before_nul(*out.allocator(), units)? {
-                Some(text) => push_after(out, words, text.as_str()),
-                None => Ok(()),
-            },
+            Part::Units(words, units) => push_units(out, words, units),
             Part::Lossy(words, Some(text)) => push_lossy(out, words, text),
             Part::Guid(guid) => write!(out, "{guid}"),
             Part::Os(Os::Unknown(n)) => push_pieces(out, &[Words("unknown "), Hex(n as u64)]),
             Part::Os(os) => write!(out, "{os}"),
             Part::Cpu(cpu) => write!(out, "{cpu}"),
-            Part::Stream(number) => match MINIDUMP_STREAM_TYPE::from_u32(number) {
-                Some(known_type) => out.push_str(known_type.name()),
-                None => push_pieces(out, &[Words("stream "), Hex(number as u64)]),
-            },
+            Part::Stream(number) => push_stream(out, number),
             Part::Failed(Some(error)) => push_between(out, ": ", Words(error.name()), ""),
             Part::Key(words, file, Some(id)) =>
                 push_pieces(out, &[Words(words), Words(file), Words("/"), Words(id.as_str())]),
             Part::Place(modules, nowhere, place) => push_place(out, modules, nowhere, place),
             Part::Memory(memory) => push_memory(out, memory),
             Part::Record(exception) => push_record(out, exception),
-            Part::Line(Some(file), line) => {
-                push_lossy(out, " at ", file)?;
-                push_between(out, ":", Decimal(line as u64), "")
-            }
-            Part::Line(None, line) => push_between(out, " at line ", Decimal(line as u64), ""),
-            Part::Short(words, Some(short)) => push_pieces(out, &[
-                Words(words), Words("context of "), Decimal(short.size as u64), Words(" of "),
-                Decimal(short.whole as u64), Words(" bytes"),
-            ]),
+            Part::Line(file, line) => push_source(out, file, line),
+            Part::Short(words, short) => push_short(out, words, short),
             Part::Flags(flags) => push_flags(out, flags),
             Part::Names(words, names) => push_names(out, words, names),
             Part::Registers(size, registers) => push_registers(out, size, registers),
@@ -225,6 +212,55 @@ fn push_lossy(out: &mut String, words: &str, text: LinuxOsStr<'_>) -> Added
     push_between(out, words, Words(text.as_str()), "")
 }
 
+// Appends the text of UTF-16 up to its first 0 after words, unless it is empty or malformed.
+fn push_units(out: &mut String, words: &str, units: &[u16]) -> Added
+    ensures { OnOk result (string_bytes out.new
+        ≡ string_bytes out.old ++ text_after words.now (text_or_empty units.now)) }
+{
+    match text_before_nul(*out.allocator(), units)? {
+        Some(text) => push_after(out, words, text.as_str()),
+        None => Ok(()),
+    }
+}
+
+// Appends the name of the stream of a type, or its number if it has none.
+fn push_stream(out: &mut String, number: u32) -> Added
+    ensures { OnOk result (string_bytes out.new ≡ string_bytes out.old ++ stream_text number) }
+{
+    match MINIDUMP_STREAM_TYPE::from_u32(number) {
+        Some(known_type) => out.push_str(known_type.name()),
+        None => push_pieces(out, &[Words("stream "), Hex(number as u64)]),
+    }
+}
+
+// Appends a line of a source file, or of one that isn't known.
+fn push_source(out: &mut String, file: Option<LinuxOsStr<'_>>, line: u32) -> Added
+    ensures { OnOk result (string_bytes out.new
+        ≡ string_bytes out.old ++ line_text (option_map text_of file.entry) line) }
+{
+    match file {
+        Some(file) => {
+            push_lossy(out, " at ", file)?;
+            push_between(out, ":", Decimal(line as u64), "")
+        }
+        None => push_between(out, " at line ", Decimal(line as u64), ""),
+    }
+}
+
+// Appends how much there is of a context after words, if it is cut.
+#[rattlefmt::skip]
+fn push_short(out: &mut String, words: &str, short: Option<ShortContext>) -> Added
+    ensures { OnOk result (string_bytes out.new ≡ string_bytes out.old ++ short_if words.now short) }
+{
+    match short {
+        Some(short) => push_pieces(out, &[
+            Words(words), Words("context of "), Decimal(short.size as u64), Words(" of "),
+            Decimal(short.whole as u64), Words(" bytes"),
+        ]),
+        None => Ok(()),
+    }
+}
+
 // ---- modules and memory
 
 // Appends the module of an index with an offset in it, or words if there is none.
@@ -247,22 +283,20 @@ fn push_place(
     }
 }
 
-// Appends the state of memory, and its rights if it is committed.
+// Appends the state of memory, or its rights if it is committed.
 #[rattlefmt::skip]
 fn push_memory(out: &mut String, memory: Option<AddressMemory>) -> Added
     ensures { OnOk result (string_bytes out.new ≡ string_bytes out.old ++ memory_words memory) }
 {
     match memory {
-        Some(memory) => match memory.state {
-            RegionState::Free => out.push_str(", memory free"),
-            RegionState::Reserved => out.push_str(", memory reserved"),
-            RegionState::Committed => push_pieces(out, &[
-                Words(", memory "), Words(words_or(memory.is_readable, "r", "-")),
-                Words(words_or(memory.is_writable, "w", "-")),
-                Words(words_or(memory.is_executable, "x", "-")),
-                Words(words_or(memory.is_guarded, " guarded", "")),
-            ]),
-        },
+        Some(AddressMemory::Free) => out.push_str(", memory free"),
+        Some(AddressMemory::Reserved) => out.push_str(", memory reserved"),
+        Some(AddressMemory::Committed(rights)) => push_pieces(out, &[
+            Words(", memory "), Words(words_or(rights.is_readable, "r", "-")),
+            Words(words_or(rights.is_writable, "w", "-")),
+            Words(words_or(rights.is_executable, "x", "-")),
+            Words(words_or(rights.is_guarded, " guarded", "")),
+        ]),
         None => Ok(()),
     }
 }
@@ -396,7 +430,8 @@ fn push_parameters(out: &mut String, parameters: &[u64]) -> Added
     }
 }
 
-// Appends why the context of an exception can't be read, with its size, unless it has no bytes.
+// Appends why the context of an exception can't be read: that it is outside the file, or that it isn't
+// accepted, and then its size, unless that is 0.
 fn push_problem(out: &mut String, problem: Option<ContextProblem>) -> Added
     ensures { OnOk result (string_bytes out.new ≡ string_bytes out.old ++ context_words problem) }
 {

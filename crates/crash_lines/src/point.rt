@@ -8,11 +8,11 @@ ghost use Rattle.crash_threads.specs.Contexts.{context_of};
 ghost use Rattle.crash.specs.Crash.{crash_of};
 ghost use Rattle.crash_process.specs.Modules.{loaded_of};
 ghost use Rattle.crash_threads.specs.Point.{point_of};
-ghost use Rattle.crash_lines.specs.Point.{address_line, crashed_context, has_placed, heading_of};
-ghost use Rattle.crash_lines.specs.Point.{heading_row, instruction_lines, is_ordinary, known_lines};
-ghost use Rattle.crash_lines.specs.Point.{memory_lines, placed_lines, point_lines, processor_lines};
-ghost use Rattle.crash_lines.specs.Point.{register_row, registers_lines, rows, thread_id};
-ghost use Rattle.crash_lines.specs.Point.{unloaded_path};
+ghost use Rattle.crash_lines.specs.Point.{address_line, crashed_context, heading_of, heading_row};
+ghost use Rattle.crash_lines.specs.Point.{if_placed, instruction_lines, is_ordinary, known_lines};
+ghost use Rattle.crash_lines.specs.Point.{memory_lines, placed_lines, point_lines};
+ghost use Rattle.crash_lines.specs.Point.{processor_lines, register_row, registers_lines, rows};
+ghost use Rattle.crash_lines.specs.Point.{thread_id, unloaded_path, words_lines};
 ghost use Rattle.crash_lines.specs.Lines.{Adds};
 
 use crate::lines::{Added, push_row, push_table, push_text_line};
@@ -21,6 +21,7 @@ use crate::parts::Part::{
 };
 use crash::{
     AddressFacts, ContextOrigin, Crash, CrashContext, CrashModule, CrashPoint, ShortContext,
+    StackWord,
 };
 
 // ---- an address
@@ -78,7 +79,7 @@ pub(crate) fn push_registers(out: &mut String, crash: &Crash<'_>) -> Added
     }
 }
 
-// Appends registers after their heading, or that there are none.
+// Appends registers below their heading, or that there are none.
 fn push_known(out: &mut String, context: Option<&CrashContext>) -> Added
     ensures { Adds out.old out.new
         (known_lines (option_map context_of (option_copied context.entry))) result }
@@ -146,19 +147,30 @@ pub(crate) fn push_point(out: &mut String, crash: &Crash<'_>) -> Added
 }
 
 // Appends the line of the flags and the segments, that of the flags that are set, if there are any, and
-// the registers whose values lie in a module or a stack, after a heading if there are any.
+// the registers whose values lie in a module or a stack.
 #[rattlefmt::skip]
-#[tactic(auto, unfolding(crate::specs::Point::flags_and_heading))]
-fn push_processor<'x>(out: &mut String, crash: &Crash<'_>, point: &'x CrashPoint<'_>) -> Added
+#[tactic(auto, unfolding(crate::specs::Point::flags_lines))]
+fn push_processor(out: &mut String, crash: &Crash<'_>, point: &CrashPoint<'_>) -> Added
     ensures { Adds out.old out.new
         (processor_lines (crash_of crash.now) (point_of point.now)) result }
 {
-    let registers = point.registers.as_slice();
     push_table(out, &[
         &[Words("  "), Flags(point.flags.as_slice())],
         &[Names("    flags set:", point.set_flags.as_slice())],
-        &[If(has_placed(registers), "registers in a module or a stack")],
     ])?;
+    push_placed(out, crash, point)
+}
+
+// Appends the registers whose values lie in a module or a stack, below a heading, if there are any.
+fn push_placed(out: &mut String, crash: &Crash<'_>, point: &CrashPoint<'_>) -> Added
+    ensures { Adds out.old out.new
+        (placed_lines (crash_of crash.now) (point_of point.now).registers) result }
+{
+    let registers = point.registers.as_slice();
+    if !any_placed(registers) {
+        return Ok(());
+    }
+    push_text_line(out, "registers in a module or a stack")?;
     for register in registers {
         push_if_placed(out, crash, register.0, &register.1)?;
     }
@@ -166,13 +178,6 @@ fn push_processor<'x>(out: &mut String, crash: &Crash<'_>, point: &'x CrashPoint
 }
 
 // Tells whether the value of one of registers lies in a module or a stack.
-fn has_placed(registers: &[(&'static str, AddressFacts)]) -> bool
-    ensures { result ≡ has_placed (map (λ r. (r.0.now, r.1)) registers.now) }
-{
-    any_placed(registers)
-}
-
-// Tells the same, by the registers as they are.
 fn any_placed(registers: &[(&'static str, AddressFacts)]) -> bool
     ensures { result ≡ list_any (λ r. is_placed r.1) registers.now }
 {
@@ -182,7 +187,7 @@ fn any_placed(registers: &[(&'static str, AddressFacts)]) -> bool
 // Appends the line of a register, if its value lies in a module or a stack.
 fn push_if_placed(out: &mut String, crash: &Crash<'_>, name: &str, facts: &AddressFacts) -> Added
     ensures { Adds out.old out.new
-        (placed_lines (crash_of crash.now) (name.now, facts.now)) result }
+        (if_placed (crash_of crash.now) (name.now, facts.now)) result }
 {
     if facts.is_placed() {
         push_address_line(out, crash, "    ", name, "", facts)
@@ -207,22 +212,29 @@ fn push_instruction(out: &mut String, crash: &Crash<'_>, facts: &AddressFacts) -
 fn is_ordinary(facts: &AddressFacts) -> bool
     ensures { result ≡ is_ordinary facts.now }
 {
-    facts.module.is_some() && facts.memory.map_or(true, |memory| memory.is_executable)
+    facts.module.is_some() && facts.memory.map_or(true, |memory| memory.is_executable())
 }
 
-// Appends the line of the bytes at the instruction pointer, if there are any, and the words of the stack,
-// after a heading if there are any.
-#[rattlefmt::skip]
-#[tactic(auto, unfolding(crate::specs::Point::code_and_heading, crate::specs::Point::word_line))]
+// Appends the line of the bytes at the instruction pointer, if there are any, and the words of the stack.
+#[tactic(auto, unfolding(crate::specs::Point::code_lines))]
 fn push_memory(out: &mut String, modules: &[CrashModule], point: &CrashPoint<'_>) -> Added
     ensures { Adds out.old out.new
         (memory_lines (map loaded_of modules.now) (point_of point.now)) result }
 {
-    let words = point.words.as_slice();
-    push_table(out, &[
-        &[Code(point.instruction.address, point.code)],
-        &[If(words.len() > 0, "words at the stack pointer")],
-    ])?;
+    push_table(out, &[&[Code(point.instruction.address, point.code)]])?;
+    push_words(out, modules, point.words.as_slice())
+}
+
+// Appends the words of the stack, below a heading, if there are any.
+#[rattlefmt::skip]
+#[tactic(auto, unfolding(crate::specs::Point::word_line))]
+fn push_words(out: &mut String, modules: &[CrashModule], words: &[StackWord]) -> Added
+    ensures { Adds out.old out.new (words_lines (map loaded_of modules.now) words.now) result }
+{
+    if words.is_empty() {
+        return Ok(());
+    }
+    push_text_line(out, "words at the stack pointer")?;
     for word in words {
         push_row(out, &[
             Words("    "), Hex(word.address), Words(" "), Hex(word.value),

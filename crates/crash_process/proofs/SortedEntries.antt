@@ -1,8 +1,8 @@
 -- Entries whose keys ascend are those of the finite map of a list that has the same value at each key.
-use Rattle.std.proofs.Common.{◌≡◌, ◌∙◌, Bool, true, false, T, ◌&&◌, ◌||◌, cond, Ordering, Less, List, [], ◌∷◌, Some, None, ap, map, refl, subst, sym}
+use Rattle.std.proofs.Common.{◌≡◌, ◌∙◌, Bool, true, false, T, ◌&&◌, cond, Ordering, Less, List, [], ◌∷◌, Some, None, arith, map, refl, subst, sym}
 use Rattle.std.specs.Cmp.{IsTotalOrder, Equal-is}
-use Rattle.std.specs.FinMap.{IsAntisymmetric, entries, entries-from_sorted, find, from_entries, from_sorted, get-from_entries, get-from_sorted, is_sorted, same_map}
-use Rattle.std.specs.FinMap.Entries.{below_all}
+use Rattle.std.specs.FinMap.{IsAntisymmetric, entries, entries_sorted, find, from_entries, get-entries, get-from_entries, is_sorted}
+use Rattle.std.specs.FinMap.Entries.{below_all, same_entries}
 use Rattle.std.specs.List.{AllByRecursion, list_any}
 use Rattle.std.specs.List.Sorted.{IsStrictlySortedBy}
 use Rattle.std.specs.Map.{keys_of}
@@ -11,10 +11,6 @@ use Rattle.std.specs.Ordering.{eq_by_cmp, is_lt}
 both : (a b : Bool) → T a → T b → T (a && b)
 both true b g h = h
 both false b g h = absurd g
-
-one_found : {X : Type 0} (b c : Bool) (x y : X) → (b ≡ true → x ≡ y) → cond b (Some x) (cond c (Some y) None) ≡ cond (b || c) (Some y) None
-one_found true c x y same = ap Some (same refl)
-one_found false c x y same = refl
 
 module _ {K X : Type 0} (R : K → K → Ordering) where
   all_above : (x : K) (es : List (K × X)) → AllByRecursion (λ y. R x y ≡ Less) (keys_of es) → T (below_all R x es)
@@ -29,14 +25,12 @@ module _ {K X : Type 0} (R : K → K → Ordering) where
   pub entries_are : IsTotalOrder R → IsAntisymmetric R → (es xs : List (K × X)) → IsStrictlySortedBy R (keys_of es)
       → ((q : K) → find R q es ≡ find R q xs) → es ≡ entries (from_entries {R = R} xs)
   entries_are total same es xs rise alike =
-      let sorted : T (is_sorted R es) = rises es rise in
-      sym (entries-from_sorted R es sorted)
-      ∙ ap entries (same_map total same (from_sorted es) (from_entries xs)
-      (λ q. get-from_sorted R es q sorted ∙ alike q ∙ sym (get-from_entries total xs q)))
+      let all = from_entries {R = R} xs in
+      same_entries R total same es (entries all) (rises es rise) (entries_sorted all)
+      (λ q. alike q ∙ sym (get-from_entries total xs q) ∙ get-entries all q)
 
   -- what is found where each value is that of its key
   pub found : IsAntisymmetric R → (f : K → X) (q : K) (ks : List K) → find R q (map (λ k. (k, f k)) ks) ≡ cond (list_any (eq_by_cmp R q) ks) (Some (f q)) None
   found same f q [] = refl
   found same f q (k ∷ ks) =
-      ap (cond (eq_by_cmp R q k) (Some (f k))) (found same f q ks)
-      ∙ one_found (eq_by_cmp R q k) (list_any (eq_by_cmp R q) ks) (f k) (f q) (λ is. ap f (sym (same q k ((Equal-is (R q k)).0 is))))
+      let tied : eq_by_cmp R q k ≡ true → q ≡ k = λ is. same q k ((Equal-is (R q k)).0 is) in grind (arith, tied, found same f q ks)

@@ -102,14 +102,13 @@ all_entries d = directory d.order d.file d.header
 
 -- an entry is lost: its bytes are not all in the file, but those of the stream of its type are, which
 -- another entry decides. Of exceptions each entry is read
-abbrev pub is_lost : List ℕ → Dump → MINIDUMP_DIRECTORY → Bool
-is_lost file d e = is_none (located file e.location)
-    && (is_none (raw_error d e.stream_type)
-    && not (e.stream_type == exception_stream.stream_type))
+abbrev pub is_lost : Dump → MINIDUMP_DIRECTORY → Bool
+is_lost d e = is_none (located d.file e.location) && is_none (raw_error d e.stream_type)
+    && not (e.stream_type == exception_stream.stream_type)
 
 -- how many of them there are
 abbrev pub outside_in : Dump → ℕ
-outside_in d = count_by (is_lost d.file d) (all_entries d)
+outside_in d = count_by (is_lost d) (all_entries d)
 
 -- what the directory of a dump says
 abbrev pub directory_in : Dump → ContentsValue → DirectoryValue

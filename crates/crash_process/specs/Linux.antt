@@ -40,8 +40,8 @@ abbrev pub unit_in : List (List ℕ) → Option (List ℕ)
 unit_in [] = None
 unit_in (word ∷ words) = Some (utf8_lossy word)
 
--- the limit of the words of its name, and of the words from the soft limit on: this, the hard one, and those
--- of what they count
+-- the limit that has the words of its name, and the words after it: the soft limit, the hard one, and what they
+-- count
 abbrev pub limit_from : List (List ℕ) → List (List ℕ) → Option LimitValue
 limit_from name [] = None
 limit_from name (soft ∷ []) = None

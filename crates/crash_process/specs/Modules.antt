@@ -131,8 +131,8 @@ pair_cmp p q = ordering_then (nat_cmp p.0 q.0) (nat_cmp p.1 q.1)
 abbrev pub bases_of : List LoadedValue → List (ℕ × ℕ)
 bases_of modules = map (λ p. (p.1.base, p.0)) (enumerate_from 0 modules)
 
--- the indices of modules, ascending by base address, then by index: a finite map has its keys in their
--- order, and these are its values, from each pair of base and index to the index
+-- the indices of modules, ascending by base address, then by index. A finite map has its keys in their
+-- order: here each pair of a base and an index, with the index as its value
 unfoldable pub by_address : List LoadedValue → List ℕ
 by_address modules = values (from_entries {R = pair_cmp} (map (λ p. (p, p.1)) (bases_of modules)))
 
@@ -164,7 +164,7 @@ abbrev pub entries_in : Dump → List MINIDUMP_MODULE
 entries_in d =
     unwrap_or (result_ok (and_then (raw_stream 4 d) (plain_list module_entry d.order))) []
 
--- those of them that can't be read, by the error of the list
+-- those of them that can't be read: none where the list has no error
 abbrev pub unreadable_by : Dump → Option Error → List UnreadableModule
 unreadable_by d None = []
 unreadable_by d (Some error) = unreadable_among d.order d.file (entries_in d)

@@ -98,8 +98,8 @@ abbrev pub id_in : Result RawMiscInfo Error → Result (List ℕ) Error → Opti
 id_in misc status =
     option_or (option_and_then process_id (result_ok misc)) (status_number (codes "Pid") status)
 
--- how many seconds after the process began, by the misc information, the dump was written, where both
--- times are there, that of the beginning isn't 0, and they are in order
+-- for how many seconds the process had run: from its beginning, by the misc information, until the dump was
+-- written. None where the beginning isn't there, is 0, or comes after the dump
 abbrev pub uptime_in : ℕ → Result RawMiscInfo Error → Option ℕ
 uptime_in stamp misc = option_and_then (λ begun.
     if begun == 0 then None else (if nat_le begun stamp then Some (stamp - begun) else None))

@@ -39,7 +39,8 @@ is_single_quoted value = nat_le 2 (length value)
 unfoldable pub without_single_quotes : List ℕ → List ℕ
 without_single_quotes value = if is_single_quoted value then slice_range value 1 (length value - 1) else value
 
--- that of the pairs of a text, without single quotes, and with U+FFFD for what isn't UTF-8
+-- the value of the first pair of a text that has one of two keys, without single quotes, and with U+FFFD for what
+-- isn't UTF-8
 abbrev pub text_value : List ℕ → List ℕ → List ℕ → Option (List ℕ)
 text_value text key other = option_map (λ value. utf8_lossy (without_single_quotes value))
     (first_value (pairs_of 0x3d text) key other)

@@ -127,11 +127,14 @@ fn error_of_number(dump: &Minidump<'_>, contents: &Contents<'_>, number: u32) ->
 fn raw_error(dump: &Minidump<'_>, number: u32) -> Option<Error>
     ensures { result ≡ raw_error (dump_of dump.now) number }
 {
-    dump.get_raw_stream(number).err()
+    match dump.get_raw_stream(number) {
+        Ok(_) => None,
+        Err(error) => Some(error),
+    }
 }
 
 // Returns the number of entries that are lost: their bytes are not all in the file, but those of the
-// stream of their type are, which another entry decides. Each exception is read.
+// entry that decides their type are. Exceptions don't count, since each is read.
 fn outside_of(dump: &Minidump<'_>, file: &[u8]) -> u64
     requires { dump_in file.now ≡ Ok (dump_of dump.now) }
     ensures { result ≡ outside_in (dump_of dump.now) }

@@ -4,6 +4,7 @@
 //! - [`CrashDirectory`] has the entries that decide, each with the error of its stream.
 //! - [`CrashProcess`] has the process and the system on which it ran.
 //! - [`CrashModules`] has the modules, and their order by address.
+//! - [`variables_of`] and [`limits_of`] read the environment and the limits of a process of Linux.
 //!
 //! # Errors
 //!

@@ -87,6 +87,7 @@ fn words_of<'a>(alloc: Global, line: LinuxOsStr<'a>) -> Result<Vec<LinuxOsStr<'a
 }
 
 // Makes the limit of the words of a line, if they have one.
+#[tactic(auto, using(crate::proofs::Found::around_first))]
 fn words_limit(alloc: Global, words: &[LinuxOsStr<'_>]) -> Result<Option<ProcessLimit>, AllocError>
     ensures { IfOk result (λ limit. option_map limit_of limit
         ≡ words_limit (map text_of words.now)) }

@@ -33,7 +33,7 @@ pub enum ModulePart {
     CodeView,
 }
 
-// Returns the entries of the list of modules that can't be read, if the list has this error.
+// Returns the entries of the list of modules that can't be read, if the list has an error.
 pub(crate) fn unreadable_of(
     alloc: Global,
     file: &[u8],

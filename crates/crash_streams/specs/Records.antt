@@ -32,8 +32,8 @@ parameters_in r = take (min r.number_parameters 15) r.exception_information
 abbrev has_lldb_flag : MINIDUMP_EXCEPTION → Bool
 has_lldb_flag r = r.exception_flags == 0x4c4c_4442
 
--- that text, of the bytes of all parameters, each from its lowest byte on: those before the first 0, if there is
--- one, with U+FFFD for what isn't UTF-8, and none where there are no bytes
+-- that text: the bytes of all parameters, each from its lowest byte on, up to the first 0, with U+FFFD for what
+-- isn't UTF-8; none where it is empty
 abbrev pub description_in : MINIDUMP_EXCEPTION → Option (List ℕ)
 description_in r =
     let bytes = before_first (λ b. b == 0) (flat_map (to_le_bytes w64) r.exception_information) in
@@ -100,8 +100,8 @@ abbrev pub user_at : PointerWidth → ℕ → Option ℕ
 user_at Bits32 address = None
 user_at _ address = Some (address / 2 ^ 32)
 
--- the process that sent a signal and its user, by the union of Linux's siginfo, whose bytes are the
--- address of a fault else: `si_pid`, and after it `si_uid`
+-- the process that sent a signal and its user, by what stands in the place of a fault's address: in the union of
+-- Linux's siginfo that is `si_pid`, and after it `si_uid`
 abbrev sender_at : SignalCode → PointerWidth → ℕ → Sender
 sender_at code width address = record {
   code = code;
@@ -117,14 +117,14 @@ sender_of_parameters code parameters = record {
   user = Some (slice_index parameters 1 % 2 ^ 32);
 }
 
--- the first parameter has both ids: that of Linux's SIGPOLL, 29, and SIGSYS, 31, of which Crashpad has other
--- fields of that union: `si_band` or `si_call_addr`, as wide as an address and at its place, and after it `si_fd` or
--- `si_syscall`. Where an address has 32 bits, the second parameter is the field at the place of `si_uid`
+-- the first parameter has both ids. Of Linux's SIGPOLL, 29, and SIGSYS, 31, Crashpad has other fields of that union:
+-- `si_band` or `si_call_addr`, and then the field after it. The first is as wide as an address: with 64 bits it lies
+-- over both ids, with 32 bits over `si_pid` alone
 abbrev has_both_ids : PointerWidth → ℕ → Bool
 has_both_ids Bits32 signal = false
 has_both_ids _ signal = signal == 29 || signal == 31
 
--- the same by the address, else by the parameters: unknown where there are neither
+-- the sender by the address, else by the parameters: unknown where there are neither
 abbrev pub sender_by : SignalCode → PointerWidth → MINIDUMP_EXCEPTION → Sender
 sender_by code width r =
     if not (r.exception_address == 0) then sender_at code width r.exception_address
@@ -134,14 +134,13 @@ sender_by code width r =
     else sender_of_parameters code r.exception_information))
 
 -- Linux numbers its processes from 1 to 2^22 - 1
-abbrev is_process : ℕ → Bool
+abbrev pub is_process : ℕ → Bool
 is_process n = nat_le 1 n && nat_lt n (2 ^ 22)
 
 -- a record can be that of an access near 0, as through a null pointer: SIGBUS or SIGSEGV, at an address
 -- that would name a process of root. The address of another fault is that of its instruction
 abbrev is_low_access : MINIDUMP_EXCEPTION → Bool
-is_low_access r =
-    (r.exception_code == 7 || r.exception_code == 11) && is_process r.exception_address
+is_low_access r = is_access Linux r.exception_code && is_process r.exception_address
 
 -- a process sent a signal. SI_USER is 0, as of a writer that has no `si_code`: then the sender must
 -- be one that can be a process, and the record not one of an access near 0

@@ -7,10 +7,8 @@ ghost use Rattle.minidump.specs.Below.Modules.UnloadedModule.{unloaded_of};
 ghost use Rattle.minidump.specs.Below.Records.Annotations.{annotation_of};
 ghost use Rattle.minidump.specs.Below.Records.CrashpadText.{annotation_text};
 ghost use Rattle.minidump.specs.DumpValue.{dump_of};
-ghost use Rattle.minidump.specs.Promise.{linux_maps_stream, memory64_list_stream, memory_info_list_stream};
-ghost use Rattle.minidump.specs.Promise.{memory_list_stream, unloaded_module_list_stream};
-ghost use Rattle.crash_streams.specs.Contents.{contents_in, contents_of, first_infos, first_memory};
-ghost use Rattle.crash_streams.specs.Contents.{message_streams_of, process_streams_of};
+ghost use Rattle.minidump.specs.Promise.{unloaded_module_list_stream};
+ghost use Rattle.crash_streams.specs.Contents.{contents_in, contents_of, message_streams_of, process_streams_of};
 ghost use Rattle.crash_streams.specs.Contents.{space_streams_of, system_streams_of, thread_streams_of};
 
 use minidump::{
@@ -266,11 +264,16 @@ fn memory_streams<'a>(
         (λ s. s.2 ≡ (contents_in (dump_of dump.now)).space.regions_outside) }
     ensures memory { IsOkUnless result Error.OutOfMemory }
 {
-    let memory64 = dump.try_stream(alloc)?;
+    let memory64: Result<MinidumpMemory64List<'_>, Error> = dump.try_stream(alloc)?;
     let plain: Result<MinidumpMemoryList<'_>, Error> = dump.try_stream(alloc)?;
     let errors = (error_of(&memory64), error_of(&plain));
     let outside = plain.as_ref().map_or(0, |plain| plain.regions_outside());
-    Ok((first_memory(alloc, memory64, plain), errors, outside))
+    let memory = match (memory64, plain) {
+        (Ok(list), _) => UnifiedMemoryList::Memory64(list),
+        (Err(_), Ok(list)) => UnifiedMemoryList::Memory(list),
+        (Err(_), Err(_)) => UnifiedMemoryList::new(alloc),
+    };
+    Ok((memory, errors, outside))
 }
 
 // Reads what is known of the regions of memory, and returns it with the errors of both streams and
@@ -291,11 +294,16 @@ fn info_streams<'a>(
     ensures count { IfOk result (λ s. s.2 ≡ (contents_in (dump_of dump.now)).space.map_count) }
     ensures memory { IsOkUnless result Error.OutOfMemory }
 {
-    let infos = dump.try_stream(alloc)?;
+    let infos: Result<MinidumpMemoryInfoList<'_>, Error> = dump.try_stream(alloc)?;
     let maps: Result<MinidumpLinuxMaps<'_>, Error> = dump.try_stream(alloc)?;
     let errors = (error_of(&infos), error_of(&maps));
     let map_count = maps.as_ref().ok().map(|maps| maps.memory_map_count());
-    Ok((first_infos(alloc, infos, maps), errors, map_count))
+    let infos = match (infos, maps) {
+        (Ok(list), _) => UnifiedMemoryInfoList::Info(list),
+        (Err(_), Ok(list)) => UnifiedMemoryInfoList::Maps(list),
+        (Err(_), Err(_)) => UnifiedMemoryInfoList::empty(alloc),
+    };
+    Ok((infos, errors, map_count))
 }
 
 /// Returns the error for which a stream can't be read.
@@ -303,40 +311,6 @@ pub fn error_of<'a, S: MinidumpStream<'a>>(found: &Result<S, Error>) -> Option<E
     ensures { result ≡ result_err (map_ok S.spec.value found.now) }
 {
     found.as_ref().err().copied()
-}
-
-// Returns the first list of memory that could be read, or none.
-fn first_memory<'a>(
-    alloc: Global,
-    memory64: Result<MinidumpMemory64List<'a>, Error>,
-    memory: Result<MinidumpMemoryList<'a>, Error>,
-) -> UnifiedMemoryList<'a>
-    ensures { unified_list result ≡ first_memory
-        (map_ok memory64_list_stream.value memory64.entry)
-        (map_ok memory_list_stream.value memory.entry) }
-{
-    match (memory64, memory) {
-        (Ok(list), _) => UnifiedMemoryList::Memory64(list),
-        (Err(_), Ok(list)) => UnifiedMemoryList::Memory(list),
-        (Err(_), Err(_)) => UnifiedMemoryList::new(alloc),
-    }
-}
-
-// Returns the first list of information that could be read, or none.
-fn first_infos<'a>(
-    alloc: Global,
-    infos: Result<MinidumpMemoryInfoList<'a>, Error>,
-    maps: Result<MinidumpLinuxMaps<'a>, Error>,
-) -> UnifiedMemoryInfoList<'a>
-    ensures { info_list result ≡ first_infos
-        (map_ok memory_info_list_stream.value infos.entry)
-        (map_ok linux_maps_stream.value maps.entry) }
-{
-    match (infos, maps) {
-        (Ok(list), _) => UnifiedMemoryInfoList::Info(list),
-        (Err(_), Ok(list)) => UnifiedMemoryInfoList::Maps(list),
-        (Err(_), Err(_)) => UnifiedMemoryInfoList::empty(alloc),
-    }
 }
 
 /// Returns the entries of the list of modules that were unloaded: none if it can't be read.

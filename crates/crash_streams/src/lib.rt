@@ -5,7 +5,7 @@
 //!   directory. [`SpaceStreams`] chooses between the lists of memory, and between the lists of what is
 //!   known of its regions.
 //! - [`description_of`], [`access_of`] and [`sender_of`] say what the record of an exception holds
-//!   beside its code.
+//!   beside its code, [`lacks_address`] and [`may_be_instruction`] what its address is.
 //!
 //! `crash_process` says what the streams tell of the process and its modules, `crash_threads` of its
 //! threads and the crash.

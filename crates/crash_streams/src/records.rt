@@ -2,7 +2,7 @@
 ghost use Rattle.std.specs.Prelude.{◌≡◌, ◌%◌, ◌^◌, IfOk, string_bytes};
 ghost use Rattle.std.specs.Option.{option_copied, option_map};
 ghost use Rattle.minidump.specs.Promise.{system_info_stream};
-ghost use Rattle.crash_streams.specs.Records.{access_in, description_in, is_access, is_protection, is_sent};
+ghost use Rattle.crash_streams.specs.Records.{access_in, description_in, is_access, is_process, is_protection, is_sent};
 ghost use Rattle.crash_streams.specs.Records.{lacks_address, may_be_instruction, parameters_in, sender_by};
 ghost use Rattle.crash_streams.specs.Records.{sender_in, signal_code, signal_code_name, user_at};
 
@@ -13,12 +13,15 @@ use minidump::strings::LinuxOsStr;
 use minidump::system_info::{Cpu, Os, PointerWidth};
 use std::alloc::{AllocError, Global};
 
+// Codes of winnt.h.
 const EXCEPTION_ACCESS_VIOLATION: u32 = 0xc000_0005;
 
 const EXCEPTION_IN_PAGE_ERROR: u32 = 0xc000_0006;
+
 // The flags of a record of LLDB, which is llvm's `LLDB_FLAG`.
 const LLDB_FLAG: u32 = 0x4c4c_4442;
 
+// Signals of Linux.
 const SIGILL: u32 = 4;
 
 const SIGTRAP: u32 = 5;
@@ -33,6 +36,7 @@ const SIGPOLL: u32 = 29;
 
 const SIGSYS: u32 = 31;
 
+// The `si_code` of faults of Linux.
 const SI_KERNEL: u32 = 0x80;
 
 const SEGV_MTEAERR: u32 = 8;
@@ -41,6 +45,7 @@ const SEGV_CPERR: u32 = 10;
 
 const BUS_ADRALN: u32 = 1;
 
+// Of macOS: a code, and its flags for a general protection.
 const EXC_BAD_ACCESS: u32 = 1;
 
 const EXC_I386_GPFLT: u32 = 13;
@@ -232,20 +237,25 @@ fn signal_code(si_code: u32) -> Option<SignalCode>
     }
 }
 
-// Tells whether a process sent the signal of a record, by its code and the number of the process: by
-// SI_USER, if that can be a process, and the record isn't that of an access near 0.
+// Tells whether a process sent the signal of a record. By SI_USER it did only if the number can be
+// that of a process, and the record can't be that of an access near 0.
 fn is_sent(code: SignalCode, raw: &MINIDUMP_EXCEPTION, process: Option<u32>) -> bool
     ensures { result ≡ is_sent code raw.now process }
 {
-    let is_access = raw.exception_code == SIGBUS || raw.exception_code == SIGSEGV;
-    let is_near_0 = raw.exception_address >= 1 && raw.exception_address < 0x40_0000;
+    let is_low_access = is_access(Os::Linux, raw.exception_code)
+        && is_process(raw.exception_address);
     match (code, process) {
-        (SignalCode::User, Some(number)) => {
-            number >= 1 && number < 0x40_0000 && !(is_access && is_near_0)
-        }
+        (SignalCode::User, Some(number)) => is_process(number as u64) && !is_low_access,
         (SignalCode::User, None) => false,
         (SignalCode::Queue | SignalCode::Tkill, _) => true,
     }
+}
+
+// Tells whether Linux can have given a process this number.
+fn is_process(number: u64) -> bool
+    ensures { result ≡ is_process number }
+{
+    number >= 1 && number < 0x40_0000
 }
 
 // Returns the sender of a signal, if it was sent: by the address, else by the parameters.

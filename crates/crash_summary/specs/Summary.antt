@@ -72,13 +72,13 @@ abbrev pub reason_in : Lists → Option System → Exception → Option (List �
 reason_in names system e = option_map
     (λ s. reason_text names (crash_reason names s.os s.cpu e.raw.exception_record)) system
 
--- the instruction pointer of a crash: that of the exception's context, where it is accepted, else that of
--- the thread's
+-- the instruction pointer of a crash: that of the exception's context, or, where that can't be
+-- decoded, of the thread's
 abbrev pub crash_pointer : Option System → Exception → Option Thread → Option ℕ
 crash_pointer system e thread = instruction_of (option_or (known_context system e.order e.context)
     (option_and_then (λ t. known_context system t.order t.context) thread))
 
--- the kept module that contains an address
+-- the kept module that contains the address, where there is an address
 abbrev pub module_at : List ModuleValue → Option ℕ → Option Loaded
 module_at modules address = option_map
     (λ m. record { base = m.raw.base_of_image; size = m.raw.size_of_image; name = m.name })

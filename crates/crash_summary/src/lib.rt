@@ -20,8 +20,8 @@ ghost use Rattle.minidump.specs.DumpValue.{dump_of};
 ghost use Rattle.minidump.specs.Promise.{exception_stream, system_info_stream};
 ghost use Rattle.minidump.specs.Thread.{thread_of};
 ghost use Rattle.crash_summary.specs.Summary.{address_in, crash_pointer, loaded_of, memory_in};
-ghost use Rattle.crash_summary.specs.Summary.{module_at, modules_in, reason_in, stack_in, summary_at};
-ghost use Rattle.crash_summary.specs.Summary.{summary_in, summary_of};
+ghost use Rattle.crash_summary.specs.Summary.{module_at, modules_in, reason_in, stack_in};
+ghost use Rattle.crash_summary.specs.Summary.{summary_at, summary_in, summary_of};
 
 pub mod laws;
 
@@ -41,8 +41,8 @@ pub struct CrashSummary {
     /// The reason of the crash in words, or `None` without system information.
     pub reason: Option<String>,
     /// The kept module that contains the instruction pointer of the exception's context, or, if
-    /// that can't be decoded, of the thread's own. `None` if neither can be decoded, or no kept
-    /// module contains the instruction pointer.
+    /// that can't be decoded, of the thread's own. `None` if neither can be decoded, as without
+    /// system information, or if no kept module contains the instruction pointer.
     pub module: Option<ModuleHit>,
     /// The stack of the thread, or `None` if there is no such thread or no memory of its stack.
     pub stack: Option<StackHit>,
@@ -120,8 +120,8 @@ fn system_of(alloc: Global, dump: &Minidump<'_>) -> Result<Option<MinidumpSystem
     dump.find_stream(alloc)
 }
 
-// Returns the instruction pointer of a crash: that of the exception's context, if it is accepted, else
-// that of the thread's.
+// Returns the instruction pointer of a crash: that of the exception's context, or, if that can't be
+// decoded, of the thread's. Returns `None` if neither can, as without system information.
 fn crash_pointer(
     system: Option<&MinidumpSystemInfo>,
     exception: &MinidumpException<'_>,
@@ -171,7 +171,8 @@ fn reason_of(
     Ok(Some(String::from_utf8(out.into_device()).unwrap()))
 }
 
-// Returns the module that contains an address, or `None` if the modules are missing or malformed.
+// Returns the kept module that contains an address. Returns `None` without an address, or if the
+// modules are missing or malformed, or none that is kept contains the address.
 fn module_at(
     alloc: Global,
     dump: &Minidump<'_>,
@@ -183,20 +184,18 @@ fn module_at(
 {
     let modules: Option<MinidumpModuleList> = dump.find_stream(alloc)?;
     let modules = modules.unwrap_or(MinidumpModuleList::new(alloc));
-    let Some(address) = address else {
-        return Ok(None);
-    };
-    let Some(found) = modules.module_at_address(address) else {
-        return Ok(None);
-    };
-    Ok(Some(ModuleHit {
-        base: found.base_address(),
-        size: found.size(),
-        name: String::from_str(alloc, found.code_file())?,
-    }))
+    match address.and_then(|address| modules.module_at_address(address)) {
+        Some(found) => Ok(Some(ModuleHit {
+            base: found.base_address(),
+            size: found.size(),
+            name: String::from_str(alloc, found.code_file())?,
+        })),
+        None => Ok(None),
+    }
 }
 
-// Returns the stack of a thread: its own, or one that the memory holds, where it can be read.
+// Returns the stack of a thread: its own, else the kept region of the memory in which it begins.
+// Returns `None` without a thread, or if it has neither.
 fn stack_of<'a>(
     alloc: Global,
     dump: &Minidump<'a>,
@@ -211,11 +210,10 @@ fn stack_of<'a>(
     let Some(thread) = thread else {
         return Ok(None);
     };
-    let Some(region) = thread.stack_memory(&memory) else {
-        return Ok(None);
-    };
-    Ok(Some(StackHit {
-        base: region.base_address(),
-        size: region.size(),
-    }))
+    Ok(
+        thread.stack_memory(&memory).map(|region| StackHit {
+            base: region.base_address(),
+            size: region.size(),
+        }),
+    )
 }

@@ -42,8 +42,8 @@ backtraces_of b = map (option_map backtrace_of) b.threads.items
 abbrev pub frame_by : StackValue → List (Option SymbolsValue) → StackFrame → NamedFrameValue
 frame_by s files f = named_in files (frame_in s f)
 
--- the backtrace of a context on a stack, with at most so many candidates: the walk by symbols, with the
--- module and the names of each frame
+-- the backtrace of a context on a stack, with at most so many candidates: the walk by symbols, with
+-- the module and the names of each frame
 abbrev pub backtrace_on : KnownSymbols → ℕ → StackValue × MinidumpContext → BacktraceValue
 backtrace_on s scan walked =
     let walk = symbol_walk_in walked.0 s.files walked.1 scan in record {

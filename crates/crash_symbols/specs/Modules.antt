@@ -43,7 +43,8 @@ abbrev pub path_of : List ℕ → List ℕ → List ℕ
 path_of name id =
     name ++ (codes "/" ++ (id ++ (codes "/" ++ (stem name ++ codes ".sym"))))
 
--- the path of a module's symbol file: none where it lacks a name or an identifier, or one isn't plain
+-- the path of a module's symbol file: none where it lacks a name or an identifier, or one isn't
+-- plain
 abbrev pub symbol_path : LoadedValue → Option (List ℕ)
 symbol_path m =
     option_and_then (λ file. option_and_then (λ id. option_and_then (λ name. option_map (path_of name) (plain_name id))

@@ -1,5 +1,5 @@
--- What a symbol file says of a frame: its function, its source line, and the calls that the compiler
--- put in place there.
+-- What a symbol file says of a frame: its function, its source line, and the calls that the
+-- compiler put in place there.
 use Rattle.std.specs.Prelude.{ℕ, ◌-◌, List, [], ◌∷◌, map, reverse, Option, Some, None, is_some}
 use Rattle.std.specs.List.{filter_map, range_with_len, take_while}
 use Rattle.std.specs.Option.{option_and_then, option_map, option_map_or}
@@ -11,7 +11,7 @@ use Rattle.breakpad_symbols.specs.SymbolFile.{SymbolsValue, file_name, origin_na
 use Rattle.crash_threads.specs.declared.frames.CrashFrame.{CrashFrame}
 use Rattle.symbol_walk.specs.Symbols.{function_at, symbols_of_module}
 
--- a function by name, and the offset of an address from its first
+-- the name of a function, and the offset of an address from the first one of the function
 pub record FunctionName : Type 0 where
   pub name : List ℕ
   pub offset : ℕ
@@ -21,13 +21,13 @@ pub record SourceValue : Type 0 where
   pub file : Option (List ℕ)
   pub line : ℕ
 
--- a call that the compiler put in place: the function that was called, and where in it the frame is
+-- a call that the compiler put in place: the function that was called, and the source line in that
 pub record CallValue : Type 0 where
   pub function : Option (List ℕ)
   pub source : Option SourceValue
 
--- a frame with the function that it is in, the source line in that, and the calls put in place there,
--- the innermost first
+-- a frame with the function that it is in, the source line in that, and the calls put in place
+-- there, the innermost first
 pub record NamedFrameValue : Type 0 where
   pub frame : CrashFrame
   pub function : Option FunctionName
@@ -55,8 +55,8 @@ source_of_call s call = record {
   line = call.line;
 }
 
--- the calls of the depths 0, 1 and so on, up to the first that none has, at most 1,000 of them; of two
--- of one depth the first
+-- the calls of the depths 0, 1 and so on, up to the first that none has, at most 1,000 of them; of
+-- two of one depth the first
 unfoldable pub by_depth : List InlineCall → List InlineCall
 by_depth calls = filter_map (λ call. call) (take_while is_some
     (map (λ depth. first_numbered (λ c. c.depth) depth calls) (range_with_len 0 1000)))
@@ -65,15 +65,15 @@ by_depth calls = filter_map (λ call. call) (take_while is_some
 abbrev pub calls_in : FunctionValue → ℕ → List InlineCall
 calls_in f offset = by_depth (inlines_in f offset)
 
--- calls, the innermost first, that is at this source line: the function of each next one is at the
--- line of the call in it
+-- calls, the innermost first: its function is at this source line, and the function of each next one
+-- at the line of the call in it
 unfoldable pub inlines_by : SymbolsValue → Option SourceValue → List InlineCall → List CallValue
 inlines_by s line [] = []
 inlines_by s line (call ∷ outer) =
     record { function = origin_name s.origins call.origin; source = line }
     ∷ inlines_by s (Some (source_of_call s call)) outer
 
--- the source line of the function in which such calls are: of the outermost one, and without calls
+-- the source line in the function that has such calls: that of the outermost one, and without calls
 -- this line
 unfoldable pub line_around : SymbolsValue → Option SourceValue → List InlineCall → Option SourceValue
 line_around s line [] = line

@@ -7,8 +7,8 @@ use Rattle.crash_symbols.specs.declared.symbols.SymbolState.TheVariants.{Corrupt
 use Rattle.crash_symbols.specs.declared.symbols.SymbolState.TheVariants.{OutOfMemory, Unwanted}
 use Rattle.crash_symbols.specs.declared.symbols.Symbols.{Symbols}
 
--- what the symbol file of each module says, where it is known, and what is known of the file, both by
--- the index of the module
+-- what the symbol file of each module says, where it is known, and what is known of the file, both
+-- by the index of the module
 pub record KnownSymbols : Type 0 where
   pub files : List (Option SymbolsValue)
   pub states : List SymbolState

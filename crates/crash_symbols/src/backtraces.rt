@@ -27,7 +27,8 @@ pub struct Backtraces<'l> {
 pub struct Backtrace<'l> {
     /// The frames: that of the context, and then its callers.
     pub frames: Vec<NamedFrame<'l>>,
-    /// Other words of the stack that may be return addresses, each of these once.
+    /// The candidates: the link register of the context and words of the stack that may be return
+    /// addresses, each address once.
     pub candidates: Vec<NamedFrame<'l>>,
     /// Why the last of the frames has no caller.
     pub end: SymbolWalkEnd,

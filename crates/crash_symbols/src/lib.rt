@@ -1,27 +1,27 @@
-//! The backtraces of a crash by Breakpad's symbol files: each frame with its function, its source line
-//! and the calls that the compiler put in place there; and the signature of a crash.
+//! The backtraces of a crash by Breakpad's symbol files: each frame with its function, its source
+//! line and the calls that the compiler put in place there; and the signature of a crash.
 //!
 //! - [`Symbols`] has the symbol file of each module that is known, and what is known of each file.
 //! - [`Backtraces::find`] walks each thread of a [`crash::Crash`] by the rules of these files, as
 //!   [`symbol_walk`] does, and names each frame.
-//! - [`Backtraces::wanted`] returns the modules whose files are still to be read. Their rules may lead
-//!   to further frames, and so to further modules.
-//! - [`shown_walk`] is what a form shows of a thread: its backtrace, or without symbols its walk, of
-//!   which [`ShownWalk::first_frames`] takes the first frames.
+//! - [`Backtraces::wanted`] returns the modules whose files are still to be read. Their rules may
+//!   lead to further frames, and so to further modules.
+//! - [`shown_walk`] is what a form shows of a thread: its backtrace, or without symbols its walk,
+//!   of which [`ShownWalk::first_frames`] takes the first frames.
 //! - [`signature_of`] makes the signature of a crash, which crashes of one kind share.
 //! - [`symbol_path`] is where the file of a module lies below a directory of symbol files, and
 //!   [`is_of_module`] tells whether a file is the module's.
 //!
-//! Begin with [`Symbols::new`]; find the backtraces, read the wanted files, and go on so until none is
-//! wanted.
+//! Begin with [`Symbols::new`]; find the backtraces, read the wanted files, and go on so until none
+//! is wanted.
 //!
-//! A frame is looked up by its address, which for a caller is the one below its return address, in the
-//! call; on ARM of 32 bits bit 0 of the return address is cleared first. Its function is the kept one
-//! whose range has the address, else the nearest public symbol at or below it, unless that is at the
-//! module's base, or a function begins between the two or at one of them. Where the compiler put calls
-//! in place, the line record of the address is the innermost call's; each other function is at the line
-//! of the call in it. At most 1,000 calls in one another are looked for. All names are borrowed from
-//! the symbol files.
+//! A frame is looked up by its address, which for a caller is the one below its return address, in
+//! the call; on ARM of 32 bits bit 0 of the return address is cleared first. Its function is the
+//! kept one whose range has the address, else the nearest public symbol at or below it, unless that
+//! is at the module's base, or a function begins between the two or at one of them. Where the
+//! compiler put calls in place, the line record of the address is the innermost call's; each other
+//! function is at the line of the call in it. At most 1,000 calls in one another are looked for.
+//! All names are borrowed from the symbol files.
 //!
 //! # Errors
 //!
@@ -29,8 +29,8 @@
 //!
 //! # What is proved
 //!
-//! - The backtraces are those that `backtraces_in` assigns to the crash and to what the symbol files
-//!   say: [`Backtraces::find`].
+//! - The backtraces are those that `backtraces_in` assigns to the crash and to what the symbol
+//!   files say: [`Backtraces::find`].
 //! - The modules whose files are wanted are those of `wanted_in`: [`Backtraces::wanted`].
 //! - What is shown of a thread is `shown_in` of the backtraces and the thread: [`shown_walk`]. The
 //!   first of its frames are `first_frames` of that: [`ShownWalk::first_frames`].

@@ -10,8 +10,8 @@ use breakpad_symbols::SymbolFile;
 use crash::{CrashModule, file_name};
 use std::alloc::{AllocError, Global};
 
-/// Tells whether a symbol file is that of a module: the identifier in its MODULE line is the module's
-/// debug identifier, in letters of either case.
+/// Tells whether a symbol file is that of a module: the identifier in its MODULE line is the
+/// module's debug identifier, in letters of either case.
 pub fn is_of_module(file: &SymbolFile<'_>, module: &CrashModule) -> bool
     ensures { result ≡ is_of_module (symbols_of file.now) (loaded_of module.now) }
 {

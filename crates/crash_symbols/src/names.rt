@@ -24,8 +24,8 @@ pub struct NamedFrame<'l> {
     pub frame: CrashFrame,
     /// The function that the frame's address lies in.
     pub function: Option<FrameFunction<'l>>,
-    /// The source line in that function: where calls were put in place, the line of the outermost of
-    /// them.
+    /// The source line in that function: where calls were put in place, the line of the outermost
+    /// of them.
     pub line: Option<SourceLine<'l>>,
     /// The calls that the compiler put in place at the frame's address, the innermost first.
     pub inlines: Vec<InlinedCall<'l>>,
@@ -49,8 +49,8 @@ pub struct SourceLine<'l> {
     pub line: u32,
 }
 
-/// A call that the compiler put in place: the code of the function that was called stands in that of
-/// the caller.
+/// A call that the compiler put in place: the code of the function that was called stands in that
+/// of the caller.
 #[derive(Clone, Copy)]
 pub struct InlinedCall<'l> {
     /// The function that was called, or `None` if the symbol file lacks its name.
@@ -171,8 +171,8 @@ fn calls_in(
         .collect(alloc)
 }
 
-// Returns calls with their source lines, the innermost first, and the source line around all of them.
-// The calls are given by their depths, and the innermost stands at the given line.
+// Returns calls with their source lines, the innermost first, and the source line around all of
+// them. The calls are given by their depths, and the innermost stands at the given line.
 #[tactic(auto, using(crate::proofs::ListLemmas::last_first), unfolding(crate::specs::Names::inlines_by, crate::specs::Names::line_around))]
 fn inlines_by<'l>(
     alloc: Global,

@@ -29,7 +29,8 @@ pub struct ShownFrame<'s, 'l> {
 pub struct ShownWalk<'s, 'l> {
     /// The frames: that of the context, and then its callers.
     pub frames: Vec<ShownFrame<'s, 'l>>,
-    /// Other words of the stack that may be return addresses, each of these once.
+    /// The candidates: the link register of the context and words of the stack that may be return
+    /// addresses, each address once.
     pub candidates: Vec<ShownFrame<'s, 'l>>,
     /// Why the last of the frames has no caller.
     pub end: SymbolWalkEnd,

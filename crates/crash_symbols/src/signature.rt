@@ -17,10 +17,10 @@ use std::alloc::{AllocError, Global};
 // How many frames a signature has at most.
 const FRAMES: usize = 3;
 
-/// Makes the signature of a crash: its reason, and the first three frames in a module of the thread
-/// that crashed, without candidates, with ` | ` between. A frame is the name of its function by
-/// `symbols`, else the file of its module and the offset in it. Crashes of one kind share it. Returns
-/// `None` if there is neither a reason nor such a frame.
+/// Makes the signature of a crash, which crashes of one kind share: its reason, and the first three
+/// frames of the thread that crashed that are in a module, with ` | ` between; candidates are left
+/// out. A frame is the name of its function by `symbols`, else the file of its module and the
+/// offset in it. Returns `None` if there is neither a reason nor such a frame.
 ///
 /// Returns `AllocError` if an allocation fails.
 #[tactic(auto, unfolding(crate::specs::Signature::signature_in))]
@@ -36,8 +36,8 @@ pub fn signature_of(
     joined(alloc, crash.cause.reason(), marks.as_slice())
 }
 
-// Makes the words for the first frames of the thread that crashed that are in a module, without its
-// candidates.
+// Makes the words for the first frames of the thread that crashed that are in a module; candidates
+// are left out.
 #[tactic(auto, unfolding(crate::specs::Signature::marks_in))]
 fn crashed_marks(
     alloc: Global,
@@ -82,8 +82,8 @@ fn marks_in(
     Ok(marks)
 }
 
-// Makes the words for a frame, if it is in a module: the name of its function or, if that isn't known, the
-// file of its module with the offset in it.
+// Makes the words for a frame: the name of its function or, if that isn't known, the file of its
+// module with the offset in it. Returns `None` if it is in no module.
 fn mark_of(
     alloc: Global,
     modules: &[CrashModule],
@@ -108,7 +108,7 @@ fn mark_of(
     Ok(Some(mark))
 }
 
-// Joins the reason, if there is one, and the words for frames.
+// Joins the reason, if there is one, and the words for frames. Returns `None` if there is neither.
 fn joined(
     alloc: Global,
     reason: Option<&str>,
@@ -124,7 +124,7 @@ fn joined(
     }
 }
 
-// Makes a text of a first one and the rest.
+// Joins texts, the first one and the rest, with ` | ` between.
 fn text_after(alloc: Global, first: &str, rest: &[String]) -> Result<String, AllocError>
     ensures { IfOk result (λ text. string_bytes text
         ≡ first.now ++ flat_map (λ t. codes " | " ++ t) (map string_bytes rest.now)) }

@@ -22,8 +22,8 @@ pub enum SymbolState {
     OutOfMemory,
 }
 
-/// The symbol files of the modules of a process, by the index of the module in its list. A list that
-/// is shorter than that of the modules has nothing of the rest.
+/// The symbol files of the modules of a process, by the index of the module in its list. A list
+/// that is shorter than that of the modules has nothing of the rest.
 #[derive(Drop)]
 pub struct Symbols<'l> {
     /// What the file of each module says, or `None` if that isn't known.

@@ -34,7 +34,8 @@ impl Backtraces<'_> {
     }
 }
 
-// Tells whether the symbol file of a module is wanted, by whether a frame lies in it.
+// Tells whether the symbol file of a module is wanted: nothing is known of it, and a frame or a
+// candidate lies in the module.
 fn is_wanted(state: SymbolState, is_visited: bool) -> bool
     ensures { result ≡ (is_unwanted state && is_visited) }
 {
@@ -42,6 +43,7 @@ fn is_wanted(state: SymbolState, is_visited: bool) -> bool
 }
 
 // Tells of each of so many modules whether a frame or a candidate lies in it.
+#[tactic(auto, using(std::proofs::lemmas::List::take_all))]
 fn visited(
     alloc: Global,
     threads: &[Option<Backtrace<'_>>],

@@ -13,18 +13,18 @@ use Rattle.crash_text.specs.Modules.{HasMarks, address_place, each_module, is_in
 use Rattle.crash_text.specs.Page.{PageValue, page_of}
 
 -- the lines of a module, if there is one
-one_listed : (limits : TextLimits) (a b : Bool) (m : Option LoadedValue) (words : List ℕ) → ((x : LoadedValue) → m ≡ Some x → a ≡ b)
-    → listed_lines limits a m words ≡ listed_lines limits b m words
-one_listed limits a b (Some x) words same = ap (λ named. listed_lines limits named (Some x) words) (same x refl)
-one_listed limits a b None words same = refl
+one_listed : (limits : TextLimits) (a b : Bool) (i : ℕ) (m : Option LoadedValue) (words : List ℕ) → ((x : LoadedValue) → m ≡ Some x → a ≡ b)
+    → listed_lines limits a i m words ≡ listed_lines limits b i m words
+one_listed limits a b i (Some x) words same = ap (λ named. listed_lines limits named i (Some x) words) (same x refl)
+one_listed limits a b i None words same = refl
 
 same_listed : (p : PageValue) (f g : ℕ → Bool) (indices : List ℕ) → ((i : ℕ) → i < length p.crash.modules.loaded → f i ≡ g i)
     → each_module p f indices ≡ each_module p g indices
 same_listed p f g [] same = refl
 same_listed p f g (i ∷ rest) same =
     let m = slice_get p.crash.modules.loaded i in let words = symbols_text p.symbols i in
-    ap (λ lines. lines ++ each_module p f rest) (one_listed p.limits (f i) (g i) m words (λ x at. same i (slice_get_within p.crash.modules.loaded i x at)))
-    ∙ ap (λ lines. listed_lines p.limits (g i) m words ++ lines) (same_listed p f g rest same)
+    ap (λ lines. lines ++ each_module p f rest) (one_listed p.limits (f i) (g i) i m words (λ x at. same i (slice_get_within p.crash.modules.loaded i x at)))
+    ∙ ap (λ lines. listed_lines p.limits (g i) i m words ++ lines) (same_listed p f g rest same)
 
 -- the lines by marks are those by what the marks say
 pub marked_lines : (page : Page) (marks : List Bool) (frames : List CrashFrame) (old new : List ℕ) → HasMarks marks (length page.crash.now.modules.loaded.items) frames

@@ -17,7 +17,7 @@ use Rattle.crash_symbols.specs.Symbols.{state_at}
 use Rattle.crash_text.specs.declared.limits.TextLimits.{TextLimits}
 use Rattle.crash_text.specs.Page.{PageValue, if_asked}
 use Rattle.crash_text.specs.Threads.{frames_in}
-use Rattle.crash_lines.specs.Words.{count_row, hex_if, if_missing, key_text, text_if}
+use Rattle.crash_lines.specs.Words.{count_row, decimal_if, hex_if, if_missing, key_text, text_if}
 
 -- ---- a module
 
@@ -40,12 +40,13 @@ symbols_text None index = []
 
 -- the line of a module: its base address, its end where all modules are asked for, its path, its
 -- version, and what a symbol server is asked by: the names and the identifiers of its debug file
--- and of its code file; and the words for its symbols
-unfoldable pub module_line : Bool → LoadedValue → List ℕ → List ℕ
-module_line is_asked m symbols = concat (codes "    " ∷ hex m.base
+-- and of its code file; the words for its symbols, and its index where all are asked for
+unfoldable pub module_line : Bool → ℕ → LoadedValue → List ℕ → List ℕ
+module_line is_asked index m symbols = concat (codes "    " ∷ hex m.base
     ∷ hex_if (codes "-") (if_asked is_asked m.end) ∷ codes " " ∷ m.path
     ∷ text_if (codes ", version ") m.version [] ∷ text_if (codes ", debug ") m.debug_file []
-    ∷ text_if (codes "/") m.debug_id [] ∷ key_text (codes ", code ") m.file m.code_id ∷ symbols ∷ [])
+    ∷ text_if (codes "/") m.debug_id [] ∷ key_text (codes ", code ") m.file m.code_id ∷ symbols
+    ∷ decimal_if (codes ", index ") (if_asked is_asked (Some index)) [] ∷ [])
 
 -- ---- those that are listed
 
@@ -63,15 +64,15 @@ abbrev pub is_named : Option AddressFacts → List CrashFrame → ℕ → Bool
 is_named address frames index = is_in index (address_place address)
     || list_any (λ f. is_in index f.«module») frames
 
--- a module with the words for its symbols, if all modules are asked for or it is named
-abbrev pub listed_lines : TextLimits → Bool → Option LoadedValue → List ℕ → List (List ℕ)
-listed_lines limits named (Some m) symbols = if all_modules limits || named
-    then module_line (all_modules limits) m symbols ∷ [] else []
-listed_lines limits named None symbols = []
+-- the module of an index with the words for its symbols, if all modules are asked for or it is named
+abbrev pub listed_lines : TextLimits → Bool → ℕ → Option LoadedValue → List ℕ → List (List ℕ)
+listed_lines limits named index (Some m) symbols = if all_modules limits || named
+    then module_line (all_modules limits) index m symbols ∷ [] else []
+listed_lines limits named index None symbols = []
 
 -- the same of the module of an index, by the indices of those that are named
 abbrev pub module_at : PageValue → (ℕ → Bool) → ℕ → List (List ℕ)
-module_at p named index = listed_lines p.limits (named index)
+module_at p named index = listed_lines p.limits (named index) index
     (slice_get p.crash.modules.loaded index) (symbols_text p.symbols index)
 
 -- the modules of these indices that are listed

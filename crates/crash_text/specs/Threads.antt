@@ -4,7 +4,7 @@ use Rattle.std.specs.Prelude.{if◌then◌else◌, take, unwrap_or, Option, Some
 use Rattle.std.specs.Prelude.{false, true, is_none, not}
 use Rattle.std.specs.Fmt.{decimal}
 use Rattle.std.specs.List.{concat, enumerate_from, flat_map}
-use Rattle.std.specs.Option.{option_map, option_map_or}
+use Rattle.std.specs.Option.{option_copied, option_map, option_map_or}
 use Rattle.stack_walk.specs.declared.end.WalkEnd.TheVariants.{BelowStackPointer, NoCode}
 use Rattle.stack_walk.specs.declared.end.WalkEnd.TheVariants.{NoFramePointer, NoMemory, NoRecord}
 use Rattle.stack_walk.specs.declared.end.WalkEnd.TheVariants.{UnknownWidth, ZeroFramePointer}
@@ -44,7 +44,7 @@ EntryValue = NamedFrameValue × Option CallValue
 
 -- the same of a `FrameEntry`
 abbrev pub entry_of : FrameEntry → EntryValue
-entry_of e = (shown_frame_of e.frame, option_map call_of e.call)
+entry_of e = (shown_frame_of e.frame.now, option_map call_of (option_copied e.call))
 
 -- the inlined calls at a frame, the innermost first
 abbrev pub call_entries : NamedFrameValue → List EntryValue

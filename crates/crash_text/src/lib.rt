@@ -32,8 +32,9 @@
 //! - the number of modules; then each module that has the address of the crash or a printed frame,
 //!   in the order of their addresses: its base address, its path, its version, and what a symbol
 //!   server needs: the name of its debug file, with its identifier if there is one, and the name and
-//!   the identifier of its code file, if there is one. Where all modules are asked for, each has a line, and the unloaded ones do below their number, in which
-//!   the address after it follows its base address, as `0x400000-0x410000`;
+//!   the identifier of its code file, if there is one. Where all modules are asked for, each has a
+//!   line, which ends with its index in the list, and each unloaded one has a line below their number;
+//!   the address after a module follows its base address there, as in `0x400000-0x410000`;
 //! - the numbers of unloaded modules, streams, regions of memory, maps and handles, with a line for
 //!   each kind of handles, and Linux's numbers of limits and of variables of the environment.
 //!

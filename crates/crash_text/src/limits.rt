@@ -9,10 +9,11 @@ pub struct TextLimits {
     /// Whether all threads are printed as the one that crashed is: with their stacks, their frames
     /// and the end of their walks. They are, too, if none crashed.
     pub all_threads: bool,
-    /// Whether the items of lists are printed, and not only their numbers: all modules and the
-    /// unloaded ones, with their ends, the streams, the regions of memory, the handles and the
-    /// limits of the process, but neither the maps nor the environment; and of each frame its
-    /// stack pointer, its frame pointer and, if that isn't its address, its instruction.
+    /// Whether the items of lists are printed, and not only their numbers: all modules, with their
+    /// ends and their indices, the unloaded ones with their ends, the streams, the regions of memory,
+    /// the handles and the limits of the process, but neither the maps nor the environment; and of
+    /// each frame its stack pointer, its frame pointer and, if that isn't its address, its
+    /// instruction.
     pub lists: bool,
     /// Whether all modules and the unloaded ones are printed, as by [`lists`](TextLimits::lists).
     pub modules: bool,

@@ -9,7 +9,7 @@ ghost use Rattle.crash_text.specs.Page.{page_of};
 use crate::text::{Page, if_asked};
 use crate::threads::frames_in;
 use crash::{AddressFacts, CrashFrame};
-use crash_lines::Part::{Hex, HexIf, Key, Text, Words};
+use crash_lines::Part::{DecimalIf, Hex, HexIf, Key, Text, Words};
 use crash_lines::{Added, push_count, push_if_missing, push_row};
 use crash_symbols::{SymbolState, Symbolized};
 use minidump::Error;
@@ -62,7 +62,7 @@ fn marks_of(alloc: Global, count: usize, frames: &[CrashFrame]) -> Result<Vec<bo
 }
 
 // Appends the line of the module of an index, if all modules are asked for, or if it has the
-// address of the crash or a mark: with its end if all are asked for.
+// address of the crash or a mark: with its end and its index if all are asked for.
 #[rattlefmt::skip]
 #[tactic(auto, unfolding(crate::specs::Modules::module_line))]
 fn push_at(out: &mut String, page: Page<'_, '_, '_, '_>, marks: &[bool], index: usize) -> Added
@@ -78,6 +78,7 @@ fn push_at(out: &mut String, page: Page<'_, '_, '_, '_>, marks: &[bool], index: 
             Words(module.path.as_str()), Text(", version ", &module.version, ""),
             Text(", debug ", &module.debug_file, ""), Text("/", &module.debug_id, ""),
             Key(", code ", module.file.as_str(), &module.code_id), Words(symbols),
+            DecimalIf(", index ", if_asked(is_asked, Some(index as u64)), ""),
         ]),
         _ => Ok(()),
     }

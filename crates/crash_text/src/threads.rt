@@ -294,40 +294,37 @@ fn printed_frames<'s, 'l>(
 
 // A frame, or an inlined call there.
 #[derive(Clone, Copy)]
-struct FrameEntry<'s, 'l> {
-    frame: ShownFrame<'s, 'l>,
-    call: Option<InlinedCall<'l>>,
+struct FrameEntry<'x> {
+    frame: &'x ShownFrame<'x, 'x>,
+    call: Option<&'x InlinedCall<'x>>,
 }
 
 // Returns frames, before each the inlined calls there.
 #[tactic(auto, unfolding(crate::specs::Threads::entries_in))]
-fn entries_in<'s, 'l>(
+fn entries_in<'x>(
     alloc: Global,
-    frames: &[ShownFrame<'s, 'l>],
-) -> Result<Vec<FrameEntry<'s, 'l>>, AllocError>
+    frames: &'x [ShownFrame<'x, 'x>],
+) -> Result<Vec<FrameEntry<'x>>, AllocError>
     ensures { IfOk result
         (λ entries. map entry_of entries.items ≡ entries_in (map shown_frame_of frames.now)) }
 {
     let mut entries = Vec::new(alloc);
     for frame in frames {
-        push_calls(&mut entries, *frame)?;
-        entries.push(FrameEntry {
-            frame: *frame,
-            call: None,
-        })?;
+        push_calls(&mut entries, frame)?;
+        entries.push(FrameEntry { frame, call: None })?;
     }
     Ok(entries)
 }
 
 // Appends the inlined calls at a frame to a list.
-fn push_calls<'s, 'l>(entries: &mut Vec<FrameEntry<'s, 'l>>, frame: ShownFrame<'s, 'l>) -> Added
+fn push_calls<'x>(entries: &mut Vec<FrameEntry<'x>>, frame: &'x ShownFrame<'x, 'x>) -> Added
     ensures { OnOk result (map entry_of entries.new.items
-        ≡ map entry_of entries.old.items ++ call_entries (shown_frame_of frame.entry)) }
+        ≡ map entry_of entries.old.items ++ call_entries (shown_frame_of frame.now)) }
 {
     for call in frame.inlines {
         entries.push(FrameEntry {
             frame,
-            call: Some(*call),
+            call: Some(call),
         })?;
     }
     Ok(())
@@ -338,7 +335,7 @@ fn push_entries<'x>(
     out: &mut String,
     is_asked: bool,
     modules: &'x [CrashModule],
-    entries: &[FrameEntry<'_, 'x>],
+    entries: &[FrameEntry<'x>],
 ) -> Added
     ensures { Adds out.old out.new
         (each_entry is_asked (map loaded_of modules.now) (map entry_of entries.now)) result }
@@ -357,12 +354,12 @@ fn push_entry<'x>(
     is_asked: bool,
     modules: &'x [CrashModule],
     number: usize,
-    entry: &FrameEntry<'_, 'x>,
+    entry: &FrameEntry<'x>,
 ) -> Added
     ensures { Adds out.old out.new (entry_line is_asked (map loaded_of modules.now) number
         (entry_of entry.now).0 (entry_of entry.now).1 ∷ []) result }
 {
-    let (shown, frame) = (entry.frame, entry.frame.frame);
+    let (shown, frame) = (entry.frame, &entry.frame.frame);
     let address = frame.address.unwrap_or(frame.instruction);
     match entry.call {
         Some(call) => {

@@ -1,4 +1,5 @@
--- What is known of an address: where it lies among the modules, the stacks and the regions.
+-- Where the stacks of threads are, and what is known of an address: where it lies among the modules, the
+-- stacks and the regions.
 use Rattle.std.specs.Prelude.{ℕ, ◌-◌, ◌^◌, ◌==◌, ◌&&◌, ◌||◌, nat_le, nat_lt, Bool, true, false, List, []}
 use Rattle.std.specs.Prelude.{Option, Some, None, is_none, is_some, not, unwrap_or, if◌then◌else◌}
 use Rattle.std.specs.Option.{option_map, option_map_or}
@@ -17,8 +18,8 @@ use Rattle.minidump.specs.Thread.{Thread, stack_of}
 use Rattle.stack_walk.specs.Lookups.{is_code, module_place}
 use Rattle.crash_threads.specs.declared.addresses.AddressFacts.{AddressFacts}
 use Rattle.crash_threads.specs.declared.addresses.AddressMemory.{AddressMemory}
-use Rattle.crash_threads.specs.declared.addresses.RegionState.{RegionState}
-use Rattle.crash_threads.specs.declared.addresses.RegionState.TheVariants.{Committed, Free, Reserved}
+use Rattle.crash_threads.specs.declared.addresses.AddressMemory.TheVariants.{Committed, Free, Reserved}
+use Rattle.crash_threads.specs.declared.addresses.MemoryRights.{MemoryRights}
 use Rattle.crash_threads.specs.declared.stacks.StackRange.{StackRange}
 use Rattle.crash_streams.specs.Contents.{ContentsValue}
 use Rattle.crash_threads.specs.Contexts.{system_of}
@@ -81,40 +82,50 @@ stack_above threads address =
 
 -- ---- memory
 
--- a state by its number: winnt.h's MEM_FREE and MEM_RESERVE, and committed with any other, as
--- MEM_COMMIT
-abbrev pub state_of_number : ℕ → RegionState
-state_of_number n = if n == 0x1_0000 then Free else (if n == 0x2000 then Reserved else Committed)
-
--- the state of a region: that of its number, and committed as a line of the maps
-abbrev pub state_of : InfoRegion → RegionState
-state_of (OfInfo m) = state_of_number m.raw.state
-state_of (OfMaps m) = Committed
+-- memory in a state by its number: winnt.h's MEM_FREE and MEM_RESERVE, and committed, with these rights,
+-- in any other, as MEM_COMMIT
+abbrev pub memory_in : ℕ → MemoryRights → AddressMemory
+memory_in state rights = if state == 0x1_0000 then Free
+    else (if state == 0x2000 then Reserved else Committed rights)
 
 -- a region is guarded: winnt.h's PAGE_GUARD
 abbrev pub is_guarded : InfoRegion → Bool
 is_guarded (OfInfo m) = has_flag m.protection 0x100
 is_guarded (OfMaps m) = false
 
--- what is known of the memory of a region
-abbrev pub memory_of : InfoRegion → AddressMemory
-memory_of region = record {
-  state = state_of region;
+-- the rights of a region, if it is committed
+abbrev pub region_rights : InfoRegion → MemoryRights
+region_rights region = record {
   is_readable = region_is_readable region;
   is_writable = region_is_writable region;
   is_executable = region_is_executable region;
   is_guarded = is_guarded region;
 }
 
--- the same of the kept region that contains an address
+-- the memory of a region: that of a line of the maps is committed
+abbrev pub memory_of : InfoRegion → AddressMemory
+memory_of (OfInfo m) = memory_in m.raw.state (region_rights (OfInfo m))
+memory_of (OfMaps m) = Committed (region_rights (OfMaps m))
+
+-- the memory of the kept region that contains an address
 abbrev pub memory_at : ContentsValue → ℕ → Option AddressMemory
 memory_at c address = option_map memory_of
     (looked_up range_of_info_region (info_regions c.space.infos) address)
 
--- code may be at an address: a module contains it, or memory that is known to be executable
+-- the rights of memory, where it is committed
+abbrev pub rights_of : AddressMemory → Option MemoryRights
+rights_of Free = None
+rights_of Reserved = None
+rights_of (Committed rights) = Some rights
+
+-- memory may be run as code
+abbrev pub is_executable : AddressMemory → Bool
+is_executable m = option_map_or (λ r. r.is_executable) (rights_of m) false
+
+-- code may be at an address: a module contains it, or committed memory that is known to be executable
 abbrev pub has_code : ContentsValue → ℕ → Bool
 has_code c address = is_code c.space.modules address
-    || option_map_or (λ m. m.is_executable) (memory_at c address) false
+    || option_map_or is_executable (memory_at c address) false
 
 -- ---- all of it
 

@@ -3,8 +3,9 @@ ghost use Rattle.std.specs.Prelude.{◌≡◌, [], unwrap_or};
 ghost use Rattle.std.specs.Result.{result_ok};
 ghost use Rattle.minidump.specs.Below.Contexts.Context.{map_ok};
 ghost use Rattle.minidump.specs.Promise.{thread_list_stream, unloaded_module_list_stream};
-ghost use Rattle.crash_threads.specs.Addresses.{facts_of, has_code, is_canonical, is_placed, memory_at};
-ghost use Rattle.crash_threads.specs.Addresses.{stack_above, stack_at, state_of_number, unloaded_at};
+ghost use Rattle.crash_threads.specs.Addresses.{facts_of, has_code, is_canonical, is_executable};
+ghost use Rattle.crash_threads.specs.Addresses.{is_placed, memory_at, memory_in, rights_of, stack_above};
+ghost use Rattle.crash_threads.specs.Addresses.{stack_at, unloaded_at};
 ghost use Rattle.crash_streams.specs.Contents.{contents_of};
 ghost use Rattle.crash_threads.specs.Contexts.{system_of};
 
@@ -52,11 +53,39 @@ impl AddressFacts {
     }
 }
 
-/// What is known of the memory that contains an address.
+/// The state of the memory that contains an address.
 #[derive(Clone, Copy, PartialEq, Eq)]
-pub struct AddressMemory {
-    /// The state.
-    pub state: RegionState,
+pub enum AddressMemory {
+    /// Nothing is there: Microsoft's `MEM_FREE`.
+    Free,
+    /// Addresses are kept for later, without memory: `MEM_RESERVE`.
+    Reserved,
+    /// Memory is there, with these rights: any other state, as `MEM_COMMIT`, or a line of the maps.
+    Committed(MemoryRights),
+}
+
+impl AddressMemory {
+    /// Returns the rights of committed memory. Microsoft leaves those of other memory undefined.
+    pub fn rights(self) -> Option<MemoryRights>
+        ensures { result ≡ rights_of self }
+    {
+        match self {
+            AddressMemory::Committed(rights) => Some(rights),
+            AddressMemory::Free | AddressMemory::Reserved => None,
+        }
+    }
+
+    /// Tells whether it is committed and may be run as code.
+    pub fn is_executable(self) -> bool
+        ensures { result ≡ is_executable self }
+    {
+        self.rights().is_some_and(|rights| rights.is_executable)
+    }
+}
+
+/// How committed memory may be accessed.
+#[derive(Clone, Copy, PartialEq, Eq)]
+pub struct MemoryRights {
     /// Whether it may be read.
     pub is_readable: bool,
     /// Whether it may be written.
@@ -65,17 +94,6 @@ pub struct AddressMemory {
     pub is_executable: bool,
     /// Whether the first access raises an exception: Microsoft's `PAGE_GUARD`.
     pub is_guarded: bool,
-}
-
-/// The state of memory.
-#[derive(Clone, Copy, PartialEq, Eq)]
-pub enum RegionState {
-    /// Nothing is there: Microsoft's `MEM_FREE`.
-    Free,
-    /// Addresses are kept for later, without memory: `MEM_RESERVE`.
-    Reserved,
-    /// Memory is there: any other state, as `MEM_COMMIT`, or a line of the maps.
-    Committed,
 }
 
 // Returns what is known of an address.
@@ -154,45 +172,45 @@ fn stack_above(threads: &Result<MinidumpThreadList<'_>, Error>, address: u64) ->
 
 // ---- memory
 
-// Tells whether code may be at an address: whether a module contains it, or memory that is known to be
-// executable.
+// Tells whether code may be at an address: whether a module contains it, or committed memory that is
+// known to be executable.
 pub(crate) fn has_code(contents: &Contents<'_>, address: u64) -> bool
     ensures { result ≡ has_code (contents_of contents.now) address }
 {
     is_code(&contents.space.modules, address)
-        || memory_at(contents, address).is_some_and(|memory| memory.is_executable)
+        || memory_at(contents, address).is_some_and(|memory| memory.is_executable())
 }
 
-// Returns what is known of the memory that contains an address.
+// Returns the state of the memory that contains an address, if it is known.
 fn memory_at(contents: &Contents<'_>, address: u64) -> Option<AddressMemory>
     ensures { result ≡ memory_at (contents_of contents.now) address }
 {
     let region = contents.space.infos.memory_info_at_address(address)?;
-    let (state, is_guarded) = match region {
-        UnifiedMemoryInfo::Info(info) => (
-            state_of_number(info.raw.state),
-            info.protection.contains(MemoryProtection::PAGE_GUARD),
-        ),
-        UnifiedMemoryInfo::Map(_) => (RegionState::Committed, false),
+    let is_guarded = match region {
+        UnifiedMemoryInfo::Info(info) => info.protection.contains(MemoryProtection::PAGE_GUARD),
+        UnifiedMemoryInfo::Map(_) => false,
     };
-    Some(AddressMemory {
-        state,
+    let rights = MemoryRights {
         is_readable: region.is_readable(),
         is_writable: region.is_writable(),
         is_executable: region.is_executable(),
         is_guarded,
-    })
+    };
+    match region {
+        UnifiedMemoryInfo::Info(info) => Some(memory_in(info.raw.state, rights)),
+        UnifiedMemoryInfo::Map(_) => Some(AddressMemory::Committed(rights)),
+    }
 }
 
-// Returns a state by its number.
-fn state_of_number(number: u32) -> RegionState
-    ensures { result ≡ state_of_number number }
+// Returns memory in a state by its number, with these rights if it is committed.
+fn memory_in(state: u32, rights: MemoryRights) -> AddressMemory
+    ensures { result ≡ memory_in state rights }
 {
-    if number == MemoryState::MEM_FREE.bits() {
-        RegionState::Free
-    } else if number == MemoryState::MEM_RESERVE.bits() {
-        RegionState::Reserved
+    if state == MemoryState::MEM_FREE.bits() {
+        AddressMemory::Free
+    } else if state == MemoryState::MEM_RESERVE.bits() {
+        AddressMemory::Reserved
     } else {
-        RegionState::Committed
+        AddressMemory::Committed(rights)
     }
 }

@@ -44,7 +44,7 @@ mod point;
 mod stacks;
 mod threads;
 
-pub use addresses::{AddressFacts, AddressMemory, RegionState};
+pub use addresses::{AddressFacts, AddressMemory, MemoryRights};
 pub use cause::{CrashCause, CrashException, cause_of};
 pub use contexts::{ContextOrigin, ContextProblem, CrashContext, ShortContext, unaccepted_size};
 pub use frames::{CrashFrame, CrashWalk, frame_in};

@@ -40,7 +40,7 @@ raw_build = record {
 abbrev pub build_record : Endian → List ℕ → Option RawBuild
 build_record order bytes = record_at raw_build order 0 bytes
 
--- a record, and the MINIDUMP_STRING at its RVA
+-- the build of a stream: its record, and the MINIDUMP_STRING at the RVA of the record
 abbrev pub build_in : Endian → List ℕ → List ℕ → Result BuildValue Error
 build_in order file bytes =
     and_then (ok_or (build_record order bytes) StreamReadFailure) (λ raw.

@@ -106,5 +106,5 @@ pub fn read_build(alloc: Global, bytes: &[u8]) -> Result<Build, Error>
     ensures { Gives build_of (HasEntries bytes.now) result (build_of_file bytes.now) }
 {
     let dump = Minidump::read(alloc, bytes)?;
-    Ok(dump.get_stream(alloc)?)
+    dump.get_stream(alloc)
 }

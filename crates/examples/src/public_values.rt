@@ -56,7 +56,8 @@ pub fn system_info(info: &MinidumpSystemInfo) -> (Option<&str>, Option<&str>)
     (info.csd_version(), info.cpu_info())
 }
 
-/// Returns the regions of a memory list, and how many of its descriptors name bytes outside the file.
+/// Returns the regions of a memory list, and how many of its descriptors name bytes outside the
+/// file.
 pub fn memory_list<'l, 'a>(
     list: &'l MinidumpMemoryList<'a>,
 ) -> (slice::Iter<'l, MinidumpMemory<'a>>, u64)

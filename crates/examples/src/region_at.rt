@@ -12,11 +12,11 @@
 //! bytes, and it is `None` where no kept region contains it: `region_at`, by `IsRegionAt` and
 //! `IsDumpError`. The proof uses the contracts of `minidump`, and nothing below.
 
-ghost use Rattle.std.specs.Prelude.{IfErr, IfOk};
+ghost use Rattle.std.specs.Prelude.{◌≡◌, IfErr, IfOk};
 ghost use Rattle.std.specs.Option.{option_map};
-ghost use Rattle.minidump.specs.Below.MemoryLists.Unified.{unified_list, unified_regions};
+ghost use Rattle.minidump.specs.Below.MemoryLists.Unified.{unified_list};
 ghost use Rattle.minidump.specs.Dump.{IsDumpError};
-ghost use Rattle.examples.specs.RegionAt.{IsRegionAt, IsRegionIn};
+ghost use Rattle.examples.specs.RegionAt.{IsRegionAt, region_in};
 
 use minidump::{Error, Minidump, UnifiedMemoryList};
 use std::alloc::Global;
@@ -44,8 +44,8 @@ pub fn region_at<'a>(
 }
 
 fn region_in<'a>(memory: &UnifiedMemoryList<'a>, address: u64) -> Option<(u64, &'a [u8])>
-    ensures { IsRegionIn (unified_regions (unified_list memory.now)) address
-        (option_map (λ r. (r.0, r.1.now)) result) }
+    ensures { option_map (λ r. (r.0, r.1.now)) result
+        ≡ region_in (unified_list memory.now) address }
 {
     let region = memory.memory_at_address(address)?;
     Some((region.base_address(), region.bytes()))

@@ -56,8 +56,10 @@ fn push_region(
     memory: Option<&UnifiedMemoryList<'_>>,
     address: u64,
 ) -> Result<(), AllocError>
-    ensures { OnOk result (string_bytes out.new ≡ string_bytes out.old ++ memory_line (looked_up_in
-        range_of_region (option_map (λ m. unified_regions (unified_list m)) (option_copied memory.entry)) address)) }
+    ensures { OnOk result (string_bytes out.new ≡ string_bytes out.old
+        ++ memory_line (looked_up_in range_of_region
+        (option_map (λ m. unified_regions (unified_list m)) (option_copied memory.entry))
+        address)) }
 {
     match memory.and_then(|memory| memory.memory_at_address(address)) {
         Some(region) => push_pieces(out, &[
@@ -75,8 +77,9 @@ fn push_module(
     modules: Option<&MinidumpModuleList>,
     address: u64,
 ) -> Result<(), AllocError>
-    ensures { OnOk result (string_bytes out.new ≡ string_bytes out.old ++ module_line (looked_up_in
-        range_of_module (option_map module_list_of (option_copied modules.entry)) address)) }
+    ensures { OnOk result (string_bytes out.new ≡ string_bytes out.old
+        ++ module_line (looked_up_in range_of_module
+        (option_map module_list_of (option_copied modules.entry)) address)) }
 {
     match modules.and_then(|modules| modules.module_at_address(address)) {
         Some(module) => push_pieces(out, &[
@@ -88,8 +91,8 @@ fn push_module(
     }
 }
 
-// Appends the line of the range of the region, by the information on memory, that contains an
-// address, or that there is none.
+// Appends the line of the range of the region that contains an address, by the memory information
+// or the maps, or that there is none.
 #[rattlefmt::skip]
 fn push_info(
     out: &mut String,
@@ -109,7 +112,7 @@ fn push_info(
     }
 }
 
-// Reads the memory information of a dump, or its maps where that is missing or malformed.
+// Reads the memory information of a dump, or its maps if that is missing or malformed.
 fn information<'a>(
     dump: &Minidump<'a>,
     alloc: Global,

@@ -14,11 +14,11 @@
 //!
 //! Status 1: the dump, the file or the output failed, and a line `FILE: NAME` with the name of the
 //! error goes to standard error, or `mdump: NAME` where there is no file. Status 2: the arguments
-//! are no command, and the usage goes to standard error.
+//! are none of these, and the usage goes to standard error.
 //!
 //! # What is proved
 //!
-//! - The status is 0, 1 or 2, and 2 exactly where the arguments are no command. At 0 the output
+//! - The status is 0, 1 or 2, and 2 exactly where the arguments are none of these. At 0 the output
 //!   took the text that they ask for; at 1 a prefix of it; at 2 nothing: `run`, by `IsRun`.
 //! - Standard error took the line of one error at 1, the usage at 2, and nothing at 0; only its own
 //!   failure cuts it short.

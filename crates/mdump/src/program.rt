@@ -1,5 +1,5 @@
-ghost use Rattle.std.specs.Prelude.{◌≡◌, ◌≢◌, IfErr, IfNone, IfOk, IfSome, IsErrAnd, None, codes, drop, map};
-ghost use Rattle.std.specs.Prelude.{string_bytes};
+ghost use Rattle.std.specs.Prelude.{◌≡◌, ◌≢◌, IfErr, IfNone, IfOk, IfSome, IsErrAnd, None, codes};
+ghost use Rattle.std.specs.Prelude.{drop, map, string_bytes};
 ghost use Rattle.std.specs.IoError.{error_kind};
 ghost use Rattle.std.specs.Iterator.{Drains};
 ghost use Rattle.std.specs.Option.{option_map};
@@ -36,9 +36,10 @@ const VERSION: &str = "mdump 0.27.0+rattle.1\n";
 ///   without names of codes. The status is 0.
 /// - An error: writes `FILE: NAME` with its name to `err`, without a file `mdump: NAME`. The status
 ///   is 1. A failure of `out` is the error `IoError`.
-/// - Other arguments: writes the usage to `err`. The status is 2.
+/// - Any other arguments: writes the usage to `err`. The status is 2.
 ///
 /// A failure of `err` does not change the status.
+#[tactic(auto, unfolding(crate::specs::Done::IsRun))]
 pub fn run<R: OpenPath + AllocGlobal, O: Write, E: Write>(
     rt: &R,
     words: &[String],
@@ -103,7 +104,8 @@ fn collect_arguments(alloc: Global, args: Args) -> Result<Vec<String>, AllocErro
     args.collect(alloc)
 }
 
-// Returns what an error of these words is said of: the path of their command, or else the program.
+// Returns what an error is said of: the path of the command that the words mean, or the program if
+// they ask for the usage or the version.
 fn subject_of(words: &[String]) -> &str
     ensures { result.now ≡ subject_of (map string_bytes words.now) }
 {
@@ -113,7 +115,7 @@ fn subject_of(words: &[String]) -> &str
     }
 }
 
-// Returns what words ask for that are no command: the usage or the version.
+// Returns the text that words ask for without a file: the usage or the version.
 fn told_of(words: &[String]) -> Option<&'static str>
     ensures { option_map (λ text. text.now) result ≡ told_of (map string_bytes words.now) }
 {
@@ -125,7 +127,9 @@ fn told_of(words: &[String]) -> Option<&'static str>
     }
 }
 
-// Obeys the words. Returns `None` if they are no command.
+// Does what the words ask for. Returns `None` if they are no command, and ask for neither the usage
+// nor the version.
+#[tactic(auto, unfolding(crate::specs::Done::IsAnswered))]
 fn answer<R: OpenPath + AllocGlobal, O: Write>(
     rt: &R,
     words: &[String],
@@ -172,6 +176,7 @@ fn fail_with<E: Write>(subject: &str, error: Error, err: &mut Told<E>) -> u8
     1
 }
 
+// Writes the line of an error.
 fn put_error<E: Write>(subject: &str, error: Error, err: &mut Told<E>) -> Result<(), Error>
     ensures prints { Prints E.contents err.old err.new (error_line subject.now error) result }
     ensures error { IfErr result (λ e. e ≡ Error.IoError) }

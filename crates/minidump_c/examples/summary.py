@@ -6,7 +6,7 @@ import ctypes
 import json
 import sys
 
-VERSION = 5
+VERSION = 6
 BYTES = [ctypes.c_char_p, ctypes.c_size_t]
 SIZE, LINE = ctypes.POINTER(ctypes.c_size_t), ctypes.POINTER(ctypes.c_uint64)
 
@@ -14,7 +14,7 @@ SIZE, LINE = ctypes.POINTER(ctypes.c_size_t), ctypes.POINTER(ctypes.c_uint64)
 def load(path):
     """Loads the library, and tells ctypes what its calls take."""
     library = ctypes.CDLL(path)
-    library.minidump_crash_json.argtypes = [*BYTES, *BYTES, ctypes.c_size_t, ctypes.c_size_t, *BYTES, SIZE, LINE]
+    library.minidump_crash_json.argtypes = [*BYTES, *BYTES, ctypes.c_size_t, ctypes.c_size_t, ctypes.c_uint8, *BYTES, SIZE, LINE]
     library.minidump_error_name.argtypes = [ctypes.c_uint32, *BYTES]
     library.minidump_error_name.restype = ctypes.c_size_t
     if library.minidump_version() != VERSION:
@@ -28,7 +28,7 @@ def crash_of(library, dump):
     while size.value > room:
         room = size.value
         text = ctypes.create_string_buffer(room)
-        status = library.minidump_crash_json(dump, len(dump), None, 0, 8, 100, text, room, size, line)
+        status = library.minidump_crash_json(dump, len(dump), None, 0, 8, 100, 0, text, room, size, line)
         if status:
             size = library.minidump_error_name(status, text, room)
             return None, text.raw[:size].decode()

@@ -119,7 +119,7 @@ struct Module {
 }
 
 /// The version of `minidump.h` whose structs these are.
-const VERSION: u32 = 5;
+const VERSION: u32 = 6;
 
 unsafe extern "C" {
     safe fn minidump_version() -> u32;

@@ -36,7 +36,7 @@
 #include <stdint.h>
 
 /* The version of what this header declares. It changes with a struct or a call. The structs have no padding. */
-#define MINIDUMP_VERSION 5
+#define MINIDUMP_VERSION 6
 
 #ifdef __cplusplus
 extern "C" {
@@ -232,10 +232,10 @@ struct minidump_facts {
     uint8_t has_stack_of;
     uint8_t has_below_stack;
     uint8_t has_memory;  /* the dump has information on the memory that contains it */
-    uint8_t is_readable; /* that memory may be read; written; run as code */
+    uint8_t is_readable; /* that memory is committed and may be read; written; run as code */
     uint8_t is_writable;
     uint8_t is_executable;
-    uint8_t is_guarded; /* the first access to it raises an exception */
+    uint8_t is_guarded; /* it is committed, and the first access to it raises an exception */
 };
 
 /* What a dump says of a crash. What is absent has 0 in has_.., and 0 for its numbers. */
@@ -354,11 +354,11 @@ uint32_t minidump_crash(const uint8_t *bytes, size_t len, const uint8_t *names, 
                         uint64_t *line);
 
 /* Reads the crash of a dump, as minidump_crash does, and writes its JSON text to the front of out, as far as it fits, and the
- * size of the whole text to *size: the line of `whocrashed --json` without path, environment and line feed, with at most
- * frames frames of a thread. With 0 frames it lacks the registers of the thread that crashed, too: its first frame has
- * them. */
+ * size of the whole text to *size: the line of `whocrashed --json` without path and line feed, with at most frames frames
+ * of a thread, and with the variables of the environment, which may hold secrets, unless environment is 0. With 0 frames it
+ * lacks the registers of the thread that crashed, too: its first frame has them. */
 uint32_t minidump_crash_json(const uint8_t *bytes, size_t len, const uint8_t *names, size_t names_len, size_t scan,
-                             size_t frames, uint8_t *out, size_t out_len, size_t *size, uint64_t *line);
+                             size_t frames, uint8_t environment, uint8_t *out, size_t out_len, size_t *size, uint64_t *line);
 
 #ifdef __cplusplus
 }

@@ -1,5 +1,5 @@
 -- Texts in a caller's buffer.
-use Rattle.std.specs.Prelude.{◌≡◌, ℕ, List, ◌++◌, length, take, drop, false, None, Result, IsOkAnd}
+use Rattle.std.specs.Prelude.{◌≡◌, ◌==◌, ℕ, List, ◌++◌, length, take, drop, not, None, Result, IsOkAnd}
 use Rattle.minidump.specs.declared.Error.{Error}
 use Rattle.minidump.specs.Below.Contexts.Context.{map_ok}
 use Rattle.minidump.specs.Below.Reasons.Names.{Lists}
@@ -8,6 +8,7 @@ use Rattle.minidump.specs.Report.{report_text}
 use Rattle.minidump.specs.Text.{dump_text}
 use Rattle.crash.specs.Crash.{crash_in}
 use Rattle.crash_json.specs.Report.{text_of}
+use Rattle.crash_json.specs.declared.JsonLimits.{JsonLimits}
 
 -- a buffer with some items at its front, as far as they fit
 abbrev pub buffer_with : {A : Type 0} → List A → List A → List A
@@ -26,9 +27,10 @@ IsDirectoryOf bytes text = IsOkAnd (dump_in bytes) (λ dump. text ≡ dump_text 
 abbrev pub IsReportOf : List ℕ → Lists → List ℕ → Type 0
 IsReportOf bytes names text = IsOkAnd (dump_in bytes) (λ dump. text ≡ report_text names dump)
 
--- the JSON text of the crash of a file, without a path and the environment, and with at most so many
--- frames a thread, or why the file is no minidump
-abbrev pub json_in : List ℕ → ℕ → ℕ → Lists → Result (List ℕ) Error
-json_in bytes scan frames names =
-    map_ok (text_of (record { frames = frames; environment = false }) None None)
-    (crash_in bytes names scan)
+-- at most so many frames a thread, and the variables of the environment unless the other number is 0
+abbrev pub limits_by : ℕ → ℕ → JsonLimits
+limits_by frames environment = record { frames = frames; environment = not (environment == 0) }
+
+-- the JSON text of the crash of a file, without a path, or why the file is no minidump
+abbrev pub json_in : List ℕ → ℕ → JsonLimits → Lists → Result (List ℕ) Error
+json_in bytes scan limits names = map_ok (text_of limits None None) (crash_in bytes names scan)

@@ -1,8 +1,10 @@
 ghost use Rattle.std.specs.Prelude.{◌≡◌};
+ghost use Rattle.std.specs.Option.{option_and_then};
+ghost use Rattle.crash_threads.specs.Addresses.{rights_of};
 ghost use Rattle.minidump_c.specs.Facts.{facts_row, state_number};
 
 use crate::spans::{bit, flag};
-use crash::{AddressFacts, RegionState};
+use crash::{AddressFacts, AddressMemory, MemoryRights};
 
 /// What is known of an address. A number that is absent is 0.
 #[repr(C)]
@@ -41,13 +43,13 @@ pub struct FactsRow {
     pub has_below_stack: u8,
     /// 1 if the dump has information on the memory that contains it, else 0.
     pub has_memory: u8,
-    /// 1 if that memory may be read, else 0.
+    /// 1 if that memory is committed and may be read, else 0.
     pub is_readable: u8,
-    /// 1 if that memory may be written, else 0.
+    /// 1 if it is committed and may be written, else 0.
     pub is_writable: u8,
-    /// 1 if that memory may be run as code, else 0.
+    /// 1 if it is committed and may be run as code, else 0.
     pub is_executable: u8,
-    /// 1 if the first access to that memory raises an exception, else 0.
+    /// 1 if it is committed and the first access to it raises an exception, else 0.
     pub is_guarded: u8,
 }
 
@@ -59,6 +61,7 @@ pub(crate) fn facts_row(given: Option<AddressFacts>) -> FactsRow
         return FactsRow::default();
     };
     let (module, module_offset) = facts.module.unwrap_or((0, 0));
+    let rights = known_rights(facts.memory);
     FactsRow {
         address: facts.address,
         null_offset: facts.null_offset.unwrap_or(0),
@@ -67,7 +70,7 @@ pub(crate) fn facts_row(given: Option<AddressFacts>) -> FactsRow
         unloaded: facts.unloaded.unwrap_or(0),
         stack_of: facts.stack_of.unwrap_or(0),
         below_stack: facts.below_stack.unwrap_or(0),
-        memory_state: facts.memory.map_or(0, |m| state_number(m.state)),
+        memory_state: facts.memory.map_or(0, |memory| state_number(memory)),
         has_address: 1,
         has_null_offset: flag(&facts.null_offset),
         is_canonical: bit(facts.is_canonical),
@@ -76,20 +79,27 @@ pub(crate) fn facts_row(given: Option<AddressFacts>) -> FactsRow
         has_stack_of: flag(&facts.stack_of),
         has_below_stack: flag(&facts.below_stack),
         has_memory: flag(&facts.memory),
-        is_readable: facts.memory.map_or(0, |m| bit(m.is_readable)),
-        is_writable: facts.memory.map_or(0, |m| bit(m.is_writable)),
-        is_executable: facts.memory.map_or(0, |m| bit(m.is_executable)),
-        is_guarded: facts.memory.map_or(0, |m| bit(m.is_guarded)),
+        is_readable: rights.map_or(0, |rights| bit(rights.is_readable)),
+        is_writable: rights.map_or(0, |rights| bit(rights.is_writable)),
+        is_executable: rights.map_or(0, |rights| bit(rights.is_executable)),
+        is_guarded: rights.map_or(0, |rights| bit(rights.is_guarded)),
     }
 }
 
-// Returns the number of a state of memory.
-fn state_number(state: RegionState) -> u32
-    ensures { result ≡ state_number state }
+// Returns the rights of memory, if it is known and committed.
+fn known_rights(memory: Option<AddressMemory>) -> Option<MemoryRights>
+    ensures { result ≡ option_and_then rights_of memory }
 {
-    match state {
-        RegionState::Free => 1,
-        RegionState::Reserved => 2,
-        RegionState::Committed => 3,
+    memory?.rights()
+}
+
+// Returns the number of the state of memory.
+fn state_number(memory: AddressMemory) -> u32
+    ensures { result ≡ state_number memory }
+{
+    match memory {
+        AddressMemory::Free => 1,
+        AddressMemory::Reserved => 2,
+        AddressMemory::Committed(_) => 3,
     }
 }

@@ -3,6 +3,7 @@ ghost use Rattle.std.specs.Prelude.{◌≡◌, ⊤, [], IfErr, IfOk, Ok, length}
 ghost use Rattle.minidump.specs.Below.Format.Answer.{GivesError};
 ghost use Rattle.minidump_c.specs.Status.{Ends, EndsNamed, IsNamed, IsNamedError, IsTextError};
 ghost use Rattle.minidump_c.specs.Text.{IsDirectoryOf, IsFilled, IsReportOf, buffer_with, json_in};
+ghost use Rattle.minidump_c.specs.Text.{limits_by};
 
 use crate::status::{CallError, status_of};
 use crash_json::{JsonLimits, crash_json};
@@ -73,8 +74,9 @@ pub extern "C" fn minidump_report_named(
 
 /// Reads the crash of a minidump, with the names of codes that the text `names` lists and at most
 /// `scan` candidates, and writes its JSON text to the front of `out`, as far as it fits, and the
-/// size of the whole text to `size`. The text has no path, no environment, and at most `frames`
-/// frames of a thread. With 0 frames it lacks the registers of the thread that crashed, too.
+/// size of the whole text to `size`. The text has no path, at most `frames` frames of a thread, and
+/// the variables of the environment unless `environment` is 0. With 0 frames it lacks the registers
+/// of the thread that crashed, too.
 #[unsafe(no_mangle)]
 pub extern "C" fn minidump_crash_json(
     alloc: Global,
@@ -82,17 +84,23 @@ pub extern "C" fn minidump_crash_json(
     names: &[u8],
     scan: usize,
     frames: usize,
+    environment: u8,
     out: &mut [u8],
     size: &mut usize,
     line: &mut u64,
 ) -> u32
     ensures { EndsNamed result names.now line.old line.new
-        (λ lists. IsFilled (λ text. json_in bytes.now scan frames lists ≡ Ok text)
+        (λ lists. IsFilled
+        (λ text. json_in bytes.now scan (limits_by frames environment) lists ≡ Ok text)
         out.old out.new size.new)
-        (λ lists e. GivesError ⊤ e (json_in bytes.now scan frames lists))
+        (λ lists e. GivesError ⊤ e (json_in bytes.now scan (limits_by frames environment) lists))
         ((out.new ≡ out.old) × (size.new ≡ size.old)) }
 {
-    match named_json(alloc, bytes, names, scan, frames) {
+    let limits = JsonLimits {
+        frames,
+        environment: environment != 0,
+    };
+    match named_json(alloc, bytes, names, scan, &limits) {
         Ok(text) => {
             *size = fill(text.as_slice(), out);
             0
@@ -130,20 +138,16 @@ fn named_json(
     bytes: &[u8],
     names: &[u8],
     scan: usize,
-    frames: usize,
+    limits: &JsonLimits,
 ) -> Result<Vec<u8>, CallError>
     ensures text { IfOk result (λ text. IsNamed names.now
-        (λ lists text. json_in bytes.now scan frames lists ≡ Ok text) text.items) }
+        (λ lists text. json_in bytes.now scan limits.now lists ≡ Ok text) text.items) }
     ensures error { IfErr result (IsNamedError names.now
-        (λ lists e. GivesError ⊤ e (json_in bytes.now scan frames lists))) }
+        (λ lists e. GivesError ⊤ e (json_in bytes.now scan limits.now lists))) }
 {
     let table = NameTable::read(alloc, names)?;
     let lists = table.lists(alloc)?;
-    let limits = JsonLimits {
-        frames,
-        environment: false,
-    };
-    Ok(crash_json(alloc, None, bytes, &lists.code_names(), scan, &limits)?)
+    Ok(crash_json(alloc, None, bytes, &lists.code_names(), scan, limits)?)
 }
 
 // Makes the report. A vector fails to take bytes only where memory runs out.

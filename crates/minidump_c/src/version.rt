@@ -4,7 +4,7 @@ ghost use Rattle.std.specs.Prelude.{◌≡◌};
 /// is for.
 #[unsafe(no_mangle)]
 pub extern "C" fn minidump_version() -> u32
-    ensures { result ≡ 5 }
+    ensures { result ≡ 6 }
 {
-    5
+    6
 }

@@ -202,15 +202,18 @@ static void named(const uint8_t *bytes, size_t len, const char *names, size_t na
     printf("\n");
 }
 
-/* The beginning of the JSON text, and what stands at its end, and after it or after the room for it. */
-static void json(const uint8_t *bytes, size_t len, const char *names, size_t names_len, size_t room) {
+/* Whether the JSON text is whole and has variables of the environment, its beginning, and what stands at its end, and after
+ * it or after the room for it. */
+static void json(const uint8_t *bytes, size_t len, const char *names, size_t names_len, uint8_t environment, size_t room) {
     static char text[1 << 16];
     size_t size = 77;
     uint64_t line = 78;
     memset(text, '#', sizeof text - 1);
-    tell("crash_json", minidump_crash_json(bytes, len, (const uint8_t *)names, names_len, 8, 10, (uint8_t *)text, room, &size, &line));
+    tell("crash_json", minidump_crash_json(bytes, len, (const uint8_t *)names, names_len, 8, 10, environment, (uint8_t *)text, room,
+                                           &size, &line));
     size_t end = size < room ? size : room;
-    printf("%llu %d %.30s .. %.3s\n", (number)line, size < room, text, text + (end < 3 ? 0 : end - 2));
+    printf("%llu %d %d %.30s .. %.3s\n", (number)line, size < room, strstr(text, "\"environment\":[{") != NULL, text,
+           text + (end < 3 ? 0 : end - 2));
 }
 
 /* NULL is taken where the number after it is 0. */
@@ -225,7 +228,7 @@ static void nulls(const uint8_t *bytes, size_t len) {
     printf(" %u", minidump_report_named(bytes, len, NULL, 0, NULL, 0, &size[2], &line));
     printf(" %u", minidump_read_memory(bytes, len, 0x12f000, NULL, 0, &size[3]));
     printf(" %u", minidump_memory_table(bytes, len, NULL, 0, &size[4]));
-    printf(" %u", minidump_crash_json(bytes, len, NULL, 0, 8, 10, NULL, 0, &size[5], &line));
+    printf(" %u", minidump_crash_json(bytes, len, NULL, 0, 8, 10, 0, NULL, 0, &size[5], &line));
     printf(" %u:", minidump_crash(bytes, len, NULL, 0, 8, &c, NULL, 0, NULL, 0, NULL, 0, NULL, 0, NULL, 0, NULL, 0, &line));
     for (int i = 0; i < 5; i++) printf(" %zu", size[i]);
     printf(" %d", size[5] > 1000);
@@ -263,10 +266,11 @@ int main(int argc, char **argv) {
     crash(sent, sent_len, "", 0, 8, 3, sizeof rows.texts);
     crash(regions, len, "", 0, 8, 3, sizeof rows.texts);
     crash(dump, 31, "", 0, 8, 3, sizeof rows.texts);
-    json(dump, dump_len, names, names_len, 1 << 15);
-    json(dump, dump_len, "", 0, 40);
-    json(dump, 31, "", 0, 40);
-    json(dump, dump_len, "Linux\n", 6, 40);
+    json(dump, dump_len, names, names_len, 0, 1 << 15);
+    json(dump, dump_len, names, names_len, 1, 1 << 15);
+    json(dump, dump_len, "", 0, 0, 40);
+    json(dump, 31, "", 0, 0, 40);
+    json(dump, dump_len, "Linux\n", 6, 0, 40);
     named(dump, dump_len, names, names_len);
     named(trace, trace_len, names, names_len);
     named(dump, dump_len, "", 0);

@@ -60,7 +60,7 @@ static uint32_t call(int which) {
     case 4: return minidump_report_named(bytes, len, names, sizeof names - 1, w->text, sizeof w->text, &w->size, &w->line);
     case 5: return minidump_crash(bytes, len, names, sizeof names - 1, 8, &w->crash, w->frames, 8, w->registers, 32, w->threads, 8,
                                   w->modules, 8, w->unloaded, 8, w->text, sizeof w->text, &w->line);
-    case 6: return minidump_crash_json(bytes, len, names, sizeof names - 1, 8, 10, w->text, sizeof w->text, &w->size, &w->line);
+    case 6: return minidump_crash_json(bytes, len, names, sizeof names - 1, 8, 10, 1, w->text, sizeof w->text, &w->size, &w->line);
     default: return minidump_read_memory(bytes, len, 0x12f000, w->text, sizeof w->text, &w->size);
     }
 }

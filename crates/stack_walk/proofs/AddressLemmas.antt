@@ -1,5 +1,5 @@
 -- How many bits an address has, and what lies past the last one.
-use Rattle.std.proofs.Common.{◌≡◌, ℕ, zero, suc, ◌+◌, ◌-◌, ◌*◌, ◌%◌, ◌<◌, ◌≤◌, ◌^◌, ◌⊎◌, inl, inr, None, arith}
+use Rattle.std.proofs.Common.{◌≡◌, ℕ, zero, suc, ◌+◌, ◌-◌, ◌*◌, ◌%◌, ◌<◌, ◌≤◌, ◌^◌, ◌⊎◌, inl, inr, None, Some, arith}
 use Rattle.std.specs.Int.{leading_zeros, w64}
 use Rattle.std.specs.Int.Count.{leading_unique}
 use Rattle.std.proofs.Math.Nat.{mod-eq_of_lt}
@@ -8,6 +8,7 @@ use Rattle.std.proofs.lemmas.Bool.{cases_lt}
 use Rattle.std.proofs.lemmas.Bool.Decides.{nat_tests}
 use Rattle.minidump.specs.declared.system_info.PointerWidth.{PointerWidth}
 use Rattle.minidump.specs.Below.Index.Digits.{digits}
+use Rattle.minidump.specs.Below.System.Cpu.{pointer_bytes}
 use Rattle.stack_walk.specs.Addresses.{address_after, unsigned}
 
 -- a number has as many digits as leading zeros leave
@@ -24,6 +25,10 @@ digits_left none above below n small =
     at_most : (64 < digits n) ⊎ (digits n ≤ 64) → digits n ≤ 64
     at_most (inl more) = (let far = pow_mono {i = 65} {j = digits n} (omega arith) in absurd (omega (arith, far, double n, small)))
     at_most (inr few) = few
+
+-- an address has bytes
+pub some_bytes : (width : PointerWidth) (size : ℕ) → pointer_bytes width ≡ Some size → 0 < size
+some_bytes width size is = grind arith
 
 -- a word of 64 bits has none above them
 pub all_bits : (bits word : ℕ) → word < 2 ^ 64 → 64 ≤ bits → word ≡ unsigned bits word

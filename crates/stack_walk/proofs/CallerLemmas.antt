@@ -16,11 +16,7 @@ module _ {F : Type 0} (caller_by : F → Option F) where
   pub few_callers : (n : ℕ) (f : F) → length (callers_of caller_by n f) ≤ n
   unfolding callers_of
   few_callers zero f = omega arith
-  few_callers (suc n) f = by (caller_by f) (few_callers n)
-    where
-      by : (o : Option F) → ((g : F) → length (callers_of caller_by n g) ≤ n) → length (option_map_or (λ g. g ∷ callers_of caller_by n g) o []) ≤ suc n
-      by None few = omega arith
-      by (Some g) few = omega (arith, few g)
+  few_callers (suc n) f = grind (arith, few_callers n)
 
   same_callers : (f : F) (xs ys : List F) (l m : F) → AreCallers caller_by f xs l → AreCallers caller_by f ys m → (ys ≡ xs) × (m ≡ l)
   same_callers f [] [] l m x y = (refl, y.1 ∙ sym x.1)

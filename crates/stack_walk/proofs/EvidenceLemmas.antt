@@ -14,7 +14,7 @@ use Rattle.stack_walk.specs.declared.frame.FrameTrust.TheVariants.{FramePointer,
 use Rattle.stack_walk.specs.declared.frame.StackFrame.{StackFrame}
 use Rattle.stack_walk.specs.Addresses.{address_after, unmarked, unsigned}
 use Rattle.stack_walk.specs.Evidence.{HasEvidence, IsLinkCandidate, IsShown, evidence_address}
-use Rattle.stack_walk.specs.Frames.{AreCallers, AreFrames, StackValue, address_candidate, caller_at, caller_of, context_frame, lacks, link_candidate, link_in}
+use Rattle.stack_walk.specs.Frames.{AreCallers, AreFrames, StackValue, caller_at, caller_of, context_frame, lacks, link_candidate, link_in}
 use Rattle.stack_walk.specs.Frames.{may_hold_call, pointer_at, record_of, return_at, scan, word_candidate, word_candidates, words_above, words_below}
 use Rattle.stack_walk.specs.Lookups.{call_site, is_code, is_past_headers}
 use Rattle.stack_walk.proofs.FoundLemmas.{All-firsts, all_given, one_more}
@@ -37,19 +37,18 @@ unfolding caller_at
 of_caller s f g e = by_record s.width (pointer_at s) (return_at s) (call_site s.cpu) (is_code s.modules) f g e
 
 -- and so has a candidate
-by_word : (width : PointerWidth) (back site : ℕ → Option ℕ) (may : ℕ → Bool) (address : ℕ) (f : StackFrame)
+by_word : (width : PointerWidth) (back site : ℕ → Option ℕ) (may : ℕ → Bool) (number : ℕ) (f : StackFrame)
     → option_and_then (λ size. option_and_then (λ after. option_and_then (λ instruction. option_and_then (λ call. if may call
     then Some (record { instruction = instruction; stack_pointer = after; frame_pointer = None; trust = Scan }) else None)
-    (site instruction)) (back address)) (address_after width address size)) (pointer_bytes width)
+    (site instruction)) (back (number * size))) (address_after width (number * size) size)) (pointer_bytes width)
     ≡ Some f
     → option_and_then back (evidence_address width f) ≡ Some f.instruction
 unfolding address_after
-by_word width back site may address f e = grind (arith, nat_tests)
+by_word width back site may number f e = grind (arith, nat_tests)
 
 of_candidate : (s : StackValue) (number : ℕ) (f : StackFrame) → word_candidate s number ≡ Some f → HasEvidence s f
 unfolding word_candidate
-of_candidate s number f e = option_and_then_some (λ size. address_candidate s (number * size)) (pointer_bytes s.width) f e (λ size is found.
-    by_word s.width (return_at s) (call_site s.cpu) (λ call. is_past_headers s.modules call && may_hold_call s call) (number * size) f found)
+of_candidate s number f e = by_word s.width (return_at s) (call_site s.cpu) (λ call. is_past_headers s.modules call && may_hold_call s call) number f e
 
 -- a frame of the link register has no evidence in the stack
 none_of_link : (s : StackValue) (f : StackFrame) → HasEvidence s f → f.trust ≡ Link → ⊥

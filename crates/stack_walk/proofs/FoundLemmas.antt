@@ -1,5 +1,5 @@
 -- What a scan finds: of candidates with one return address the first.
-use Rattle.std.proofs.Common.{◌≡◌, ◌∙◌, ◌⊎◌, inl, inr, ℕ, zero, suc, ◌+◌, ◌-◌, ◌<◌, ◌≤◌, List, [], ◌∷◌, ◌++◌, length, map, take, Bool, true, false, Option, Some, None}
+use Rattle.std.proofs.Common.{◌≡◌, ◌∙◌, ◌⊎◌, inl, inr, ℕ, zero, suc, ◌+◌, ◌<◌, ◌≤◌, List, [], ◌∷◌, ◌++◌, length, map, take, Bool, true, false, Option, Some, None}
 use Rattle.std.proofs.Common.{refl, ap, append-nil, append_assoc, get_or, sym, arith}
 use Rattle.std.specs.Prelude.{All, Contains, ◌≢◌, ◌==◌, ◌||◌, not}
 use Rattle.std.specs.List.{AllPairs, IsDistinct, cons_option, filter, filter_map, fold, list_any, range_with_len}
@@ -150,12 +150,7 @@ words_enough s limit before a n (suc k) now enough was =
 pub given : {X : Type 0} (p : X → Bool) (h : ℕ → Option X) (x : X) (n a k : ℕ) → a ≤ k → k < a + n → h k ≡ Some x → p x ≡ true
     → list_any p (filter_map h (range_with_len a n)) ≡ true
 given p h x zero a k low high is passes = absurd (omega arith)
-given p h x (suc n) a k low high is passes = by (cases_lt a k) (given p h x n (a + 1) k)
-  where
-    by : (a < k) ⊎ (k ≤ a) → (a + 1 ≤ k → k < a + 1 + n → h k ≡ Some x → p x ≡ true → list_any p (filter_map h (range_with_len (a + 1) n)) ≡ true)
-        → list_any p (filter_map h (range_with_len a (suc n))) ≡ true
-    by (inl more) rest = grind (arith, rest (omega arith) (omega arith) is passes)
-    by (inr same) rest = (let there : a ≡ k = omega arith in grind arith)
+given p h x (suc n) a k low high is passes = grind (arith, given p h x n (a + 1) k)
 
 pub few_given : {X Y : Type 0} (h : X → Option Y) (xs : List X) → length (filter_map h xs) ≤ length xs
 few_given h [] = omega arith

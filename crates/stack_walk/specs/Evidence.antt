@@ -1,5 +1,5 @@
--- The evidence of a caller by a frame pointer and of a candidate: its return address stands in the
--- stack, right below its stack pointer, or it is the link register; and what its candidate is.
+-- The evidence of a frame: its return address stands in the stack, right below its stack pointer,
+-- or is the link register. And which frame is the candidate of the link register.
 use Rattle.std.specs.Prelude.{◌≡◌, ◌≢◌, ◌⊎◌, ℕ, ◌-◌, nat_le, IsTrue, List, Option, Some, None}
 use Rattle.std.specs.Prelude.{slice_get, if◌then◌else◌}
 use Rattle.std.specs.Option.{option_and_then, option_map}
@@ -14,8 +14,8 @@ use Rattle.stack_walk.specs.Frames.{StackValue, link_in, may_hold_call, return_a
 use Rattle.stack_walk.specs.Lookups.{call_site, is_code}
 
 -- the address of the word below the stack pointer of a caller or a candidate: none of a context,
--- nor of a frame by rules, whose return address may stand elsewhere or in a register, nor of that of
--- the link register
+-- nor of a frame by rules, whose return address may stand elsewhere or in a register, nor of that
+-- of the link register
 abbrev pub word_below : FrameTrust → ℕ → ℕ → Option ℕ
 word_below FramePointer stack_pointer size = if nat_le size stack_pointer
     then Some (stack_pointer - size) else None
@@ -23,19 +23,19 @@ word_below Scan stack_pointer size = if nat_le size stack_pointer then Some (sta
     else None
 word_below _ stack_pointer size = None
 
--- the address at which the return address of a frame stands: none of a context, of a frame by rules,
--- or of that of the link register
+-- the address at which the return address of a frame stands: none of a context, of a frame by
+-- rules, or of that of the link register
 abbrev pub evidence_address : PointerWidth → StackFrame → Option ℕ
 evidence_address width f = option_and_then (word_below f.trust f.stack_pointer)
     (pointer_bytes width)
 
--- a frame has its evidence: at that address the stack has a word that is its return address, without
--- the bits that may sign it
+-- a frame has its evidence: at that address the stack has a word that is its return address,
+-- without the bits that may sign it
 abbrev pub HasEvidence : StackValue → StackFrame → Type 0
 HasEvidence s f = option_and_then (return_at s) (evidence_address s.width f) ≡ Some f.instruction
 
--- a frame is that of the link register of a context: its return address is that register, without the
--- bits that may sign it
+-- a frame is that of the link register of a context: its return address is that register, without
+-- the bits that may sign it
 abbrev pub IsFromLink : StackValue → MinidumpContext → StackFrame → Type 0
 IsFromLink s c f =
     (f.trust ≡ Link) × (option_map (unsigned s.code_bits) (link_in c) ≡ Some f.instruction)
@@ -45,9 +45,9 @@ abbrev pub IsShown : StackValue → MinidumpContext → StackFrame → Type 0
 IsShown s c f = HasEvidence s f ⊎ IsFromLink s c f
 
 -- a frame is the candidate of the link register of a walk with these frames: its return address is
--- the register, without the bits that may sign it; its pointers are those of the first frame; a call
--- may return to it, whose last byte lies in a kept module and may stand there; and the first caller,
--- if there is one, isn't found by rules and has another return address
+-- the register, without the bits that may sign it; its pointers are those of the first frame; a
+-- call may return to it, whose last byte lies in a kept module and may stand there; and the first
+-- caller, if there is one, isn't found by rules and has another return address
 pub record IsLinkCandidate (s : StackValue) (link : Option ℕ) (frames : List StackFrame)
     (f : StackFrame) : Type 0 where
   pub first : StackFrame

@@ -28,9 +28,9 @@ use Rattle.stack_walk.specs.declared.stack.Stack.{Stack}
 use Rattle.stack_walk.specs.Addresses.{address_after, unmarked, unsigned}
 use Rattle.stack_walk.specs.Lookups.{call_site, is_code, is_past_headers, may_be_run, may_end_call}
 
--- a stack: the region of memory that holds it, if the dump has one, the modules, the memory, what is
--- known of that, the processor, the width of an address, and how many of the low bits of a return
--- address are its address
+-- a stack: the region of memory that holds it, if the dump has one, the modules, the memory, what
+-- is known of that, the processor, the width of an address, and how many of the low bits of a
+-- return address are its address
 pub record StackValue : Type 0 where
   pub region : Option UnifiedRegion
   pub modules : List ModuleValue
@@ -145,17 +145,16 @@ caller_at s size address = option_and_then
     else None) (call_site s.cpu return_address)) (return_at s (address + size)))
     (pointer_at s address)) (address_after s.width address (2 * size))
 
--- where the record of a frame stands: at its frame pointer without the mark of Swift, which that of a
--- context, or one that rules give, may have
+-- where the record of a frame stands: at its frame pointer without the mark of Swift, which that of
+-- a context, or one that rules give, may have
 abbrev pub record_of : StackFrame → Option ℕ
 record_of f = option_map unmarked f.frame_pointer
 
--- the caller of a frame: that of its record, which stands at or above its stack
--- pointer. On x86 and x86-64 a function pushes the frame pointer and points it to what it pushed,
--- where the stack pointer is then; on ARM and ARM64 the record lies in the function's own frame.
--- Later the stack pointer only falls. The stack pointer of a caller is the address after the record
--- that leads to it (on ARM64 the lowest that it can be), so that records neither overlap nor stand in
--- a circle
+-- the caller of a frame: that of its record, which stands at or above its stack pointer. On x86 and
+-- x86-64 a function pushes the frame pointer and points it to what it pushed, where the stack
+-- pointer is then; on ARM and ARM64 the record lies in the function's own frame. Later the stack
+-- pointer only falls. The stack pointer of a caller is the address after the record that leads to
+-- it (on ARM64 the lowest that it can be), so that records neither overlap nor stand in a circle
 abbrev pub caller_of : StackValue → StackFrame → Option StackFrame
 caller_of s f = option_and_then (λ size. option_and_then (λ address.
     if nat_lt address f.stack_pointer then None else caller_at s size address) (record_of f))
@@ -168,10 +167,11 @@ caller_of s f = option_and_then (λ size. option_and_then (λ address.
 abbrev pub may_hold_call : StackValue → ℕ → Bool
 may_hold_call s call = may_be_run s.infos call && may_end_call s.cpu s.memory call
 
--- the candidate of the word at an address: the frame that it may be the return address of, if a call
--- may end before that, past the headers of a kept module. None where no address lies after the word
-abbrev pub address_candidate : StackValue → ℕ → Option StackFrame
-address_candidate s address = option_and_then (λ size. option_and_then (λ after. option_and_then
+-- the candidate of an aligned word, by its number, how many words lie below it in the address
+-- space: the frame whose return address the word may be, if a call may end before that, past the
+-- headers of a kept module. None where no address lies after the word
+unfoldable pub word_candidate : StackValue → ℕ → Option StackFrame
+word_candidate s number = option_and_then (λ size. option_and_then (λ after. option_and_then
     (λ return_address. option_and_then
     (λ call. if is_past_headers s.modules call && may_hold_call s call
     then Some (record {
@@ -180,22 +180,16 @@ address_candidate s address = option_and_then (λ size. option_and_then (λ afte
       frame_pointer = None;
       trust = Scan;
     })
-    else None) (call_site s.cpu return_address)) (return_at s address))
-    (address_after s.width address size)) (pointer_bytes s.width)
-
--- the candidate of an aligned word, by its number: how many words lie below it in the space of
--- addresses
-unfoldable pub word_candidate : StackValue → ℕ → Option StackFrame
-word_candidate s number =
-    option_and_then (λ size. address_candidate s (number * size)) (pointer_bytes s.width)
+    else None) (call_site s.cpu return_address)) (return_at s (number * size)))
+    (address_after s.width (number * size) size)) (pointer_bytes s.width)
 
 -- the candidates of aligned words, in their order: of as many as the second number says from the
 -- first on
 abbrev pub word_candidates : StackValue → ℕ × ℕ → List StackFrame
 word_candidates s words = filter_map (word_candidate s) (range_with_len words.0 words.1)
 
--- the number of the first aligned word of a stack at or above an address, and at most how many words
--- the stack has from there
+-- the number of the first aligned word of a stack at or above an address, and at most how many
+-- words the stack has from there
 abbrev pub words_from : StackValue → ℕ → ℕ × ℕ
 words_from s from = option_map_or (λ region. option_map_or
     (λ size. (div_ceil (max from region.base_address) size, length region.bytes / size))
@@ -234,16 +228,16 @@ abbrev pub is_by_rules : FrameTrust → Bool
 is_by_rules Cfi = true
 is_by_rules _ = false
 
--- whether a walk lacks the frame with a return address after its first frame: the caller of that, if
--- there is one, isn't found by rules, and has another return address
+-- whether a walk lacks the frame with a return address after its first frame: the caller of that,
+-- if there is one, isn't found by rules, and has another return address
 abbrev pub lacks : List StackFrame → ℕ → Bool
 lacks frames address = option_map_or
     (λ caller. not (is_by_rules caller.trust) && not (caller.instruction == address))
     (slice_get frames 1) true
 
--- the candidate of the link register of a walk's context, if it has one: the frame that the first one
--- may return to, where a call in a kept module may end before the return address, which the walk
--- lacks. It has the pointers of the first one: its stack pointer is that or a higher one
+-- the candidate of the link register of a walk's context, if it has one: the frame that the first
+-- one may return to, where a call in a kept module may end before the return address, which the
+-- walk lacks. It has the pointers of the first one: its stack pointer is that or a higher one
 unfoldable pub link_candidate : StackValue → Option ℕ → List StackFrame → Option StackFrame
 link_candidate s link frames = option_and_then
     (λ word. let address = unsigned s.code_bits word in option_and_then
@@ -264,9 +258,9 @@ abbrev pub firsts : List StackFrame → List StackFrame
 firsts [] = []
 firsts (f ∷ frames) = f ∷ filter (λ g. not (f.instruction == g.instruction)) (firsts frames)
 
--- the candidates of a walk with this link register and these frames, each return address once and at
--- most so many: that of the link register, those of the words of the first frame below its record,
--- and then those from the last frame's stack pointer on
+-- the candidates of a walk with this link register and these frames, each return address once and
+-- at most so many: that of the link register, those of the words of the first frame below its
+-- record, and then those from the last frame's stack pointer on
 abbrev pub scan : StackValue → Option ℕ → List StackFrame → ℕ → List StackFrame
 scan s link frames limit = take limit (firsts ((cons_option (link_candidate s link frames) []
     ++ word_candidates s (words_below s frames)) ++ word_candidates s (words_above s frames)))

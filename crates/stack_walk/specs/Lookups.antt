@@ -1,5 +1,5 @@
--- What the address of a frame is looked up in, the modules of a process and what is known of its
--- memory; and which addresses may be returned to: those after a call, where memory may be run.
+-- The address by which a frame is looked up, the module that contains an address, and whether the
+-- memory there may be run and a call may end there.
 use Rattle.std.specs.Prelude.{ℕ, ◌+◌, ◌-◌, ◌/◌, ◌%◌, ◌==◌, ◌&&◌, ◌||◌, Bool, true, false, is_some}
 use Rattle.std.specs.Prelude.{nat_le, nat_lt, length, List, [], ◌∷◌, Option, Some, None, slice_range}
 use Rattle.std.specs.Prelude.{if◌then◌else◌}
@@ -17,8 +17,8 @@ use Rattle.stack_walk.specs.declared.frame.FrameTrust.{FrameTrust}
 use Rattle.stack_walk.specs.declared.frame.FrameTrust.TheVariants.{Context}
 use Rattle.stack_walk.specs.declared.frame.StackFrame.{StackFrame}
 
--- where a return address returns to: on ARM of 32 bits its bit 0 only says that the code there is Thumb
--- code
+-- where a return address returns to: on ARM of 32 bits its bit 0 only says that the code there is
+-- Thumb code
 abbrev pub returns_to : Cpu → ℕ → ℕ
 returns_to cpu.Arm address = address - address % 2
 returns_to _ address = address
@@ -50,8 +50,7 @@ module_place modules address = option_map (λ p. (p.0, address - p.1.raw.base_of
 -- the offset of an address in that module
 abbrev pub module_offset_at : List ModuleValue → Option ℕ → Option ℕ
 module_offset_at modules address =
-    option_and_then (λ a. option_map (λ m. a - m.raw.base_of_image)
-    (looked_up range_of_module modules a)) address
+    option_map (λ place. place.1) (option_and_then (module_place modules) address)
 
 -- whether a kept module contains an address
 abbrev pub is_code : List ModuleValue → ℕ → Bool
@@ -67,20 +66,20 @@ may_be_run infos address = option_map_or region_is_executable
 -- an address lies in a kept module, and not in its first page, which has the module's headers
 abbrev pub is_past_headers : List ModuleValue → ℕ → Bool
 is_past_headers modules address =
-    option_map_or (λ offset. nat_le 4096 offset) (module_offset_at modules (Some address)) false
+    option_map_or (λ place. nat_le 4096 place.1) (module_place modules address) false
 
--- how many bytes an operand has, by mode and register of its ModR/M byte and the base of its SIB byte:
--- the first alone in mode 3; the second where the register is 4; and a displacement of one byte in mode
--- 1, of four in mode 2 and where the register, or with a SIB byte the base, is 5 (Intel's manual,
--- volume 2, tables 2-2 and 2-3)
+-- how many bytes an operand has, by mode and register of its ModR/M byte and the base of its SIB
+-- byte: the first alone in mode 3; the second where the register is 4; and a displacement of one
+-- byte in mode 1, of four in mode 2 and where the register, or with a SIB byte the base, is 5
+-- (Intel's manual, volume 2, tables 2-2 and 2-3)
 unfoldable pub operand_length : ℕ → ℕ → ℕ → ℕ
 operand_length mode register base = if mode == 3 then 1
     else (let sib = if register == 4 then 1 else 0 in
     let last = if register == 4 then base else register in
     1 + sib + (if mode == 1 then 1 else if mode == 2 || last == 5 then 4 else 0))
 
--- a byte and an operand of so many bytes, by its first two, are a call by register or memory: FF with a
--- ModR/M byte whose bits 3 to 5 are 2
+-- a byte and an operand of so many bytes, by its first two, are a call by register or memory: FF
+-- with a ModR/M byte whose bits 3 to 5 are 2
 unfoldable pub calls_by : ℕ → ℕ → ℕ → ℕ → Bool
 calls_by length first modrm sib = first == 255 && (modrm / 8 % 8 == 2
     && operand_length (modrm / 64) (modrm % 8) (sib % 8) == length)
@@ -93,7 +92,8 @@ ends_x86_call (b7 ∷ b6 ∷ b5 ∷ b4 ∷ b3 ∷ b2 ∷ b1 ∷ []) =
     || (calls_by 5 b6 b5 b4 || (calls_by 6 b7 b6 b5 || b7 == 154)))))
 ends_x86_call _ = false
 
--- the same of ARM64: BL, or BLR in each of its forms, an instruction of four bytes, the lowest first
+-- the same of ARM64: BL, or BLR in each of its forms, an instruction of four bytes, the lowest
+-- first
 unfoldable pub ends_arm64_call : List ℕ → Bool
 ends_arm64_call (b7 ∷ b6 ∷ b5 ∷ b4 ∷ b3 ∷ b2 ∷ b1 ∷ []) =
     b1 / 4 == 37 || ((b1 == 214 || b1 == 215) && (b2 == 63 && nat_lt b3 16))
@@ -106,8 +106,8 @@ ends_call cpu.X86_64 bytes = ends_x86_call bytes
 ends_call cpu.Arm64 bytes = ends_arm64_call bytes
 ends_call _ bytes = true
 
--- the seven bytes of which the last is at an address, if the kept region of the memory that contains
--- it has them
+-- the seven bytes of which the last is at an address, if the kept region of the memory that
+-- contains it has them
 abbrev pub bytes_until : UnifiedRegions → ℕ → Option (List ℕ)
 bytes_until memory address = option_and_then
     (λ region. let offset = address - region.base_address in

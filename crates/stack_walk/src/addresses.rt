@@ -8,11 +8,13 @@ ghost use Rattle.stack_walk.specs.Addresses.{last_of_module, least_bits, unmarke
 use minidump::system_info::{Cpu, Os, PointerWidth};
 use minidump::{MinidumpModule, MinidumpModuleList, Region};
 
-/// Returns how many of the low bits of a return address are its address. ARM64 may sign a return
-/// address, by bits above those of any address: these are as many as the last address of all modules
-/// has, but at least 47 on Windows and macOS, 39 on iOS, and else 36, the fewest that Linux has. A
-/// module beyond 2^52, where no system gives a process one today, is passed over. Other processors sign
-/// none: they have 64.
+/// Returns how many of the low bits of a return address are its address.
+///
+/// ARM64 may sign a return address, by bits above those of any address of the process. There the
+/// result is the number of bits of the last address of all modules, but at least 47 on Windows and
+/// macOS, 39 on iOS, and 36 on any other system, the fewest that Linux has. A module whose last
+/// address is 2^52 or higher is passed over: no system gives a process such an address today. For
+/// any other processor, which signs none, the result is 64.
 pub fn code_bits(os: Os, cpu: Cpu, modules: &MinidumpModuleList) -> u32
     ensures { result ≡ code_bits os cpu (module_list_of modules.now) }
 {
@@ -22,7 +24,7 @@ pub fn code_bits(os: Os, cpu: Cpu, modules: &MinidumpModuleList) -> u32
     }
 }
 
-// Returns how many bits the smallest space of addresses of a system has on ARM64.
+// Returns how many bits an address has in the smallest address space of a system on ARM64.
 fn least_bits(os: Os) -> u32
     ensures { result ≡ least_bits os }
 {
@@ -53,7 +55,7 @@ fn last_code(modules: &[MinidumpModule]) -> u64
     last
 }
 
-// Returns the last address of a module, or 0 if it has none, or one that no process has.
+// Returns the last address of a module, or 0 if it has none, or one of 2^52 or higher.
 fn last_of_module(of: &MinidumpModule) -> u64
     ensures { result ≡ last_of_module (module_of of.now) }
 {
@@ -63,8 +65,8 @@ fn last_of_module(of: &MinidumpModule) -> u64
     }
 }
 
-/// Tells whether a number is an address of this width: whether it has at most 32 bits, if that is
-/// the width.
+/// Tells whether a number is an address of a width: any number is, but where an address has 32 bits
+/// only one below 2^32.
 pub fn is_address(width: PointerWidth, number: u64) -> bool
     ensures { result ≡ is_address width number }
 {
@@ -86,7 +88,7 @@ pub(crate) fn unmarked(word: u64) -> u64
     }
 }
 
-// Returns the address so many bytes after another, or `None` if there is none.
+// Returns the address `size` bytes after another, or `None` if no address of this width lies there.
 #[tactic(auto, unfolding(crate::specs::Addresses::address_after))]
 pub(crate) fn address_after(width: PointerWidth, address: u64, size: u64) -> Option<u64>
     ensures answer { result ≡ address_after width address size }

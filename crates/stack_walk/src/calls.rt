@@ -7,8 +7,8 @@ ghost use Rattle.stack_walk.specs.Lookups.{may_end_call, operand_length};
 use minidump::UnifiedMemoryList;
 use minidump::system_info::Cpu;
 
-// Tells whether a call ends with the byte at an address, by the dump's memory: also where that
-// doesn't have the bytes, or the processor's calls are not known.
+// Tells whether a call may end with the byte at an address. On x86, x86-64 and ARM64 the dump's
+// memory decides it; where that lacks the bytes, and on any other processor, one may.
 pub(crate) fn may_end_call(cpu: Cpu, memory: &UnifiedMemoryList<'_>, address: u64) -> bool
     ensures { result ≡ may_end_call cpu (unified_list memory.now) address }
 {
@@ -19,7 +19,8 @@ pub(crate) fn may_end_call(cpu: Cpu, memory: &UnifiedMemoryList<'_>, address: u6
     }
 }
 
-// Returns the seven bytes of which the last is at an address, if the dump's memory has them.
+// Returns the seven bytes of which the last is at an address, or `None` if no region of the dump's
+// memory contains the address, or the one that does lacks one of them.
 fn bytes_until<'l>(memory: &'l UnifiedMemoryList<'_>, address: u64) -> Option<&'l [u8]>
     ensures { option_copied result ≡ bytes_until (unified_list memory.now) address }
 {
@@ -53,8 +54,8 @@ fn ends_x86_call(bytes: &[u8]) -> bool
     }
 }
 
-// Tells whether a byte and an operand of so many bytes are a call by register or memory, FF /2: the
-// operand by its first two bytes.
+// Tells whether a byte and an operand of `length` bytes are a call by register or memory, FF /2.
+// The operand is given by its first two bytes.
 #[tactic(auto, unfolding(crate::specs::Lookups::calls_by))]
 fn calls_by(length: u8, first: u8, modrm: u8, sib: u8) -> bool
     ensures { result ≡ calls_by length first modrm sib }
@@ -62,8 +63,8 @@ fn calls_by(length: u8, first: u8, modrm: u8, sib: u8) -> bool
     first == 0xff && modrm / 8 % 8 == 2 && operand_length(modrm / 64, modrm % 8, sib % 8) == length
 }
 
-// Returns how many bytes an operand has, by mode and register of its ModR/M byte, and the base of
-// its SIB byte.
+// Returns how many bytes an operand has, by the mode and the register of its ModR/M byte, and the
+// base of its SIB byte.
 #[tactic(auto, unfolding(crate::specs::Lookups::operand_length))]
 fn operand_length(mode: u8, register: u8, base: u8) -> u8
     ensures { result ≡ operand_length mode register base }

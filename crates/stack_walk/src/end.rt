@@ -6,8 +6,8 @@ use crate::addresses::address_after;
 use crate::stack::record_of;
 use crate::{Stack, StackFrame};
 
-/// Why the last frame of a walk has no caller by its frame pointer, taken without the mark of Swift:
-/// the first of these that holds.
+/// Why the last frame of a walk has no caller by its frame pointer: the first of these that holds.
+/// The frame pointer is taken without the mark of Swift.
 #[derive(Clone, Copy, PartialEq, Eq)]
 pub enum WalkEnd {
     /// The dump has no memory of the stack.
@@ -18,11 +18,12 @@ pub enum WalkEnd {
     NoFramePointer,
     /// The frame pointer is 0, as a thread's first function finds it.
     ZeroFramePointer,
-    /// The frame pointer lies below the stack pointer, where the stack has no frame record: it is
-    /// none, or leads to another stack, as from that of a handler to the interrupted one.
+    /// The frame pointer lies below the stack pointer, where no frame record can be: it is something
+    /// else, or an address of another stack, as where the frames of a handler lead back to the
+    /// interrupted one.
     BelowStackPointer,
-    /// The memory of the stack doesn't hold both words of the frame record, or the record ends at
-    /// 2^64 or beyond, where an address has 32 bits at 2^32 or beyond.
+    /// The memory of the stack doesn't hold both words of the frame record, or no address lies
+    /// after the record: its end is 2^64 or more, or 2^32 or more where an address has 32 bits.
     NoRecord,
     /// The return address is 0, or no kept module contains the address below it. On ARM of 32 bits
     /// bit 0 of the return address is cleared first, and on ARM64 the bits that may sign it.

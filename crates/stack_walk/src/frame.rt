@@ -1,4 +1,4 @@
-ghost use Rattle.std.specs.Prelude.{◌≡◌, Some};
+ghost use Rattle.std.specs.Prelude.{◌≡◌};
 ghost use Rattle.std.specs.Option.{option_copied, option_map};
 ghost use Rattle.minidump.specs.Below.Modules.Module.{module_of};
 ghost use Rattle.minidump.specs.Below.Modules.ModuleList.{module_list_of};
@@ -21,8 +21,8 @@ pub enum FrameTrust {
     FramePointer,
     /// A word of the stack that may be a return address.
     Scan,
-    /// The link register of the context: the return address of a function that hasn't saved it. Such a
-    /// frame is a candidate, never one of the walk itself.
+    /// The link register of the context: the return address of a function that hasn't saved it.
+    /// Such a frame is a candidate, never one of the walk itself.
     Link,
 }
 
@@ -36,8 +36,8 @@ pub struct StackFrame {
     /// scan has the address after its return address, and that of the link register has the stack
     /// pointer of the context: the lowest that its stack pointer can be.
     pub stack_pointer: u64,
-    /// The frame pointer, or `None` if it isn't known: as the context or the rules give it, or as the
-    /// frame record has it, without the mark of Swift.
+    /// The frame pointer, or `None` if it isn't known: as the context or the rules give it, or as
+    /// the frame record has it, without the mark of Swift.
     pub frame_pointer: Option<u64>,
     /// How the frame was found.
     pub trust: FrameTrust,
@@ -45,9 +45,9 @@ pub struct StackFrame {
 
 impl StackFrame {
     /// Returns the address by which the frame is looked up: the instruction pointer of the context,
-    /// or else the address below its return address, which lies in the call. On ARM of 32 bits bit 0
-    /// of the return address, which stands for Thumb code, is cleared first. Returns `None` where
-    /// nothing lies below.
+    /// or else the address below its return address, which lies in the call. On ARM of 32 bits the
+    /// lowest bit of the return address, which stands for Thumb code, is cleared first. Returns
+    /// `None` where nothing lies below.
     pub fn lookup_address(&self, cpu: Cpu) -> Option<u64>
         ensures { result ≡ lookup_address cpu self.now }
     {
@@ -78,13 +78,14 @@ impl StackFrame {
         ensures { result ≡ module_offset_at (module_list_of modules.now)
             (lookup_address cpu self.now) }
     {
-        offset_at(modules, self.lookup_address(cpu)?)
+        let (_, offset) = module_place(modules, self.lookup_address(cpu)?)?;
+        Some(offset)
     }
 
     /// Returns the address in the stack at which the frame's return address stands, that of the
     /// word below its stack pointer. Returns `None` for [`FrameTrust::Context`],
-    /// [`FrameTrust::Cfi`] and [`FrameTrust::Link`], if the width of an address is unknown, or if the
-    /// stack pointer is less than that width.
+    /// [`FrameTrust::Cfi`] and [`FrameTrust::Link`], if the width of an address is unknown, or if
+    /// no word lies below the stack pointer.
     pub fn evidence(&self, width: PointerWidth) -> Option<u64>
         ensures { result ≡ evidence_address width self.now }
     {
@@ -100,8 +101,8 @@ impl StackFrame {
 
 // ---- what an address is looked up in
 
-// Returns the address before the one that a return address returns to, which lies in the call. On
-// ARM that lacks bit 0 of the return address.
+// Returns the address below the one that a return address returns to: it lies in the call. On ARM
+// of 32 bits bit 0 of the return address is cleared first. Returns `None` where nothing lies below.
 pub(crate) fn call_site(cpu: Cpu, address: u64) -> Option<u64>
     ensures { result ≡ call_site cpu address }
 {
@@ -109,14 +110,6 @@ pub(crate) fn call_site(cpu: Cpu, address: u64) -> Option<u64>
         Cpu::Arm => (address - address % 2).checked_sub(1),
         _ => address.checked_sub(1),
     }
-}
-
-// Returns the offset of an address in the kept module that contains it.
-pub(crate) fn offset_at(modules: &MinidumpModuleList, address: u64) -> Option<u64>
-    ensures { result ≡ module_offset_at (module_list_of modules.now) (Some address) }
-{
-    let module = modules.module_at_address(address)?;
-    Some(address - module.raw.base_of_image)
 }
 
 /// Returns the index in the list of modules of the kept one that contains an address, and the

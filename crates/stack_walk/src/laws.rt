@@ -50,9 +50,9 @@ pub fn frames_are_few()
         → 8 * length frames ≤ length (stack_bytes s) + 8 * (1 + limit) }
 {}
 
-/// The candidates of a walk leave out no return address of an aligned word from the last frame's
-/// stack pointer on, if as many are asked for as the stack has bytes; nor of one of the first frame
-/// below its record, where its caller is by that.
+/// If as many candidates are asked for as the stack has bytes, those of a walk have the return
+/// address of each aligned word that may be one, from the last frame's stack pointer on. The same
+/// holds of such words of the first frame below its record, if its caller is by that record.
 pub fn each_aligned_word_is_scanned()
     ensures above { (s : StackValue) (link : Option ℕ) (frames : List StackFrame)
         (last : StackFrame) (limit number size : ℕ) (f : StackFrame)
@@ -77,9 +77,9 @@ pub fn each_return_address_is_once()
 {}
 
 /// The candidate of the link register is the frame of `IsLinkCandidate`: its return address is the
-/// register, a call may return to it, and the first caller, if there is one, isn't found by rules and
-/// has another return address. It is the first candidate, if any is asked for, and the only one of
-/// [`FrameTrust::Link`].
+/// register, a call may return to it, and the first caller, if there is one, isn't found by rules
+/// and has another return address. It is the first candidate, if any is asked for, and the only one
+/// of [`FrameTrust::Link`].
 pub fn the_link_register_comes_first()
     ensures exact { (s : StackValue) (link : Option ℕ) (frames : List StackFrame) (f : StackFrame)
         → IsLinkCandidate s link frames f ↔ (link_candidate s link frames ≡ Some f) }

@@ -2,7 +2,7 @@
 ghost use Rattle.std.specs.Prelude.{◌≡◌, ◌+◌, ◌++◌, [], List, IfOk, OnOk};
 ghost use Rattle.std.specs.List.{cons_option, fold};
 ghost use Rattle.stack_walk.specs.Found.{IsFound, IsSeen, up_to};
-ghost use Rattle.stack_walk.specs.Frames.{address_candidate, lacks, link_candidate, link_in};
+ghost use Rattle.stack_walk.specs.Frames.{lacks, link_candidate, link_in};
 ghost use Rattle.stack_walk.specs.Frames.{may_hold_call, scan, stack_of, word_candidate};
 ghost use Rattle.stack_walk.specs.Frames.{word_candidates, words_above, words_below};
 ghost use Rattle.stack_walk.specs.Frames.{words_between, words_from};
@@ -10,25 +10,29 @@ ghost use Rattle.stack_walk.specs.declared.frame.StackFrame.{StackFrame};
 
 use crate::addresses::address_after;
 use crate::calls::may_end_call;
-use crate::frame::{call_site, is_code, offset_at};
+use crate::frame::{call_site, is_code, module_place};
 use crate::stack::record_of;
 use crate::{FrameTrust, Stack, StackFrame};
-use minidump::system_info::PointerWidth;
 use minidump::{MinidumpContext, MinidumpRawContext};
 use std::alloc::{AllocError, Global};
 use std::collections::BTreeSet;
 
 impl Stack<'_, '_> {
-    /// Returns the candidate of the word at an address: the frame that the word may be the return
-    /// address of. A walk asks for those at multiples of the width of an address.
-    pub fn candidate_at(&self, address: u64) -> Option<StackFrame>
-        ensures { result ≡ address_candidate (stack_of self.now) address }
+    /// Returns the candidate of an aligned word: the frame whose return address the word may be.
+    /// The word has the number `first + index`: as many words lie below it in the address space.
+    ///
+    /// Returns `None` if the stack doesn't hold the word, if no address lies after it, or if it
+    /// can't be a return address, as [`frames`](crate::frames) says.
+    #[tactic(auto, using(crate::proofs::AddressLemmas::none_after), unfolding(crate::specs::Frames::word_candidate))]
+    pub fn word_candidate(&self, first: u64, index: usize) -> Option<StackFrame>
+        ensures { result ≡ word_candidate (stack_of self.now) (first + index) }
     {
         let size = self.width.size_in_bytes()? as u64;
+        let address = first.checked_add(index as u64)?.checked_mul(size)?;
         let stack_pointer = address_after(self.width, address, size)?;
         let instruction = self.return_address(self.word_at(address)?);
         let call = call_site(self.cpu, instruction)?;
-        let offset = offset_at(self.modules, call)?;
+        let (_, offset) = module_place(self.modules, call)?;
         (offset >= 4096 && may_hold_call(self, call)).then_some(StackFrame {
             instruction,
             stack_pointer,
@@ -37,22 +41,11 @@ impl Stack<'_, '_> {
         })
     }
 
-    /// Returns the candidate of the aligned word that comes so many words after one, by the number of
-    /// that: how many words lie below it in the space of addresses.
-    #[tactic(auto, using(crate::proofs::AddressLemmas::none_after), unfolding(crate::specs::Frames::word_candidate))]
-    pub fn word_candidate(&self, first: u64, index: usize) -> Option<StackFrame>
-        ensures { result ≡ word_candidate (stack_of self.now) (first + index) }
-    {
-        let size = self.width.size_in_bytes()? as u64;
-        let number = first.checked_add(index as u64)?;
-        self.candidate_at(number.checked_mul(size)?)
-    }
-
-    /// Returns at most `limit` candidates of a walk with these frames, from a context with this link
-    /// register ([`link_of`](crate::link_of)). Each return address is there once: by the link
+    /// Returns at most `limit` candidates of a walk with these frames, from a context with this
+    /// link register ([`link_of`](crate::link_of)). Each return address is there once: by the link
     /// register, if the walk may lack its caller; else by the lowest word that holds it, of the
-    /// aligned words of the first frame below its record, if its caller is by that, and then of those
-    /// from the last frame's stack pointer on. The only error is that no memory is left.
+    /// aligned words of the first frame below its record, if its caller is by that, and then of
+    /// those from the last frame's stack pointer on. The only error is that no memory is left.
     pub fn candidates(
         &self,
         alloc: Global,
@@ -82,8 +75,8 @@ struct Found {
 }
 
 impl Found {
-    // Adds the candidates of aligned words, by the number of the first and how many there are, up
-    // to a limit of all.
+    // Adds the candidates of aligned words, until there are `limit` candidates in all. The words
+    // are given by the number of the first and how many there are.
     fn add_words(
         &mut self,
         stack: &Stack<'_, '_>,
@@ -103,8 +96,8 @@ impl Found {
         Ok(())
     }
 
-    // Adds a candidate, if there is one, none with its return address is there, and fewer than a
-    // limit are.
+    // Adds a candidate, if there is one, unless one with its return address is there, or there are
+    // `limit` already.
     fn add(&mut self, candidate: Option<StackFrame>, limit: usize) -> Result<(), AllocError>
         ensures { OnOk result (IsSeen self.old → IsSeen self.new × (self.new.frames.items
             ≡ fold (up_to limit) self.old.frames.items (cons_option candidate []))) }
@@ -120,8 +113,8 @@ impl Found {
 
 // ---- the words
 
-// Returns the aligned words of the first frame of a walk below its record, by the number of the
-// first and how many there are.
+// Returns the aligned words of the first frame of a walk below its record, if its caller is by
+// that: the number of the first word, and how many there are.
 #[tactic(auto, unfolding(crate::specs::Frames::words_below))]
 fn words_below(stack: &Stack<'_, '_>, frames: &[StackFrame]) -> (u64, usize)
     ensures { result ≡ words_below (stack_of stack.now) frames.now }
@@ -148,33 +141,32 @@ fn words_above(stack: &Stack<'_, '_>, frames: &[StackFrame]) -> (u64, usize)
 }
 
 // Returns the aligned words from an address on that lie below another.
+#[tactic(auto, using(crate::proofs::AddressLemmas::some_bytes))]
 fn words_between(stack: &Stack<'_, '_>, from: u64, until: u64) -> (u64, usize)
     ensures { result ≡ words_between (stack_of stack.now) from until }
 {
     let (first, count) = words_from(stack, from);
-    let below = match stack.width {
-        PointerWidth::Bits32 => until / 4,
-        PointerWidth::Bits64 => until / 8,
-        PointerWidth::Unknown => 0,
+    let below = match stack.width.size_in_bytes() {
+        Some(size) => until / size as u64,
+        None => 0,
     };
     let most = below.saturating_sub(first);
     (first, (count as u64).min(most) as usize)
 }
 
-// Returns the number of the first aligned word from an address on, and how many words there may be
-// from there.
+// Returns the number of the first aligned word of a stack from an address on, and at most how many
+// words the stack has from there.
+#[tactic(auto, using(crate::proofs::AddressLemmas::some_bytes))]
 fn words_from(stack: &Stack<'_, '_>, from: u64) -> (u64, usize)
     ensures { result ≡ words_from (stack_of stack.now) from }
 {
-    let Some(memory) = stack.memory else {
-        return (0, 0);
-    };
-    let from = from.max(memory.base_address());
-    let len = memory.bytes().len();
-    match stack.width {
-        PointerWidth::Bits32 => (from.div_ceil(4), len / 4),
-        PointerWidth::Bits64 => (from.div_ceil(8), len / 8),
-        PointerWidth::Unknown => (0, 0),
+    match (stack.memory, stack.width.size_in_bytes()) {
+        (Some(memory), Some(size)) => {
+            let from = from.max(memory.base_address());
+            let len = memory.bytes().len();
+            (from.div_ceil(size as u64), len / size as usize)
+        }
+        _ => (0, 0),
     }
 }
 

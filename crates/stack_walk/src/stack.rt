@@ -17,7 +17,7 @@ pub struct Stack<'l, 'a> {
     pub modules: &'l MinidumpModuleList,
     /// The memory of the process, which may hold the code of the modules.
     pub code: &'l UnifiedMemoryList<'a>,
-    /// What is known of the regions of its memory.
+    /// What is known of the regions of that memory.
     pub infos: &'l UnifiedMemoryInfoList<'a>,
     /// The processor.
     pub cpu: Cpu,
@@ -29,8 +29,8 @@ pub struct Stack<'l, 'a> {
 }
 
 impl Stack<'_, '_> {
-    /// Returns the word that the stack holds at an address, as wide as an address. Returns `None` if
-    /// the stack doesn't hold all of it, or the width of an address is unknown.
+    /// Returns the word that the stack holds at an address, as wide as an address. Returns `None`
+    /// if the stack doesn't hold all of it, or the width of an address is unknown.
     pub fn word_at(&self, address: u64) -> Option<u64>
         ensures { result ≡ pointer_at (stack_of self.now) address }
     {
@@ -45,9 +45,9 @@ impl Stack<'_, '_> {
         }
     }
 
-    /// Returns the address of a word that is read as a return address: the word without the bits by
-    /// which ARM64 may sign it. No address of a process has bit 55 set: a word that has it stays as
-    /// it is.
+    /// Returns the return address that a word stands for: the word without the bits by which ARM64
+    /// may sign it. A word whose bit 55 is set stays as it is: no address of a process has that
+    /// bit.
     #[tactic(auto, using(crate::proofs::AddressLemmas::all_bits))]
     pub fn return_address(&self, word: u64) -> u64
         ensures { result ≡ unsigned (stack_of self.now).code_bits word }
@@ -58,8 +58,8 @@ impl Stack<'_, '_> {
         }
     }
 
-    /// Returns the caller of a frame by its frame pointer, or `None` if that leads to no record, or
-    /// the return address there lies in no kept module.
+    /// Returns the caller of a frame by its frame pointer, or `None` if that isn't known or leads
+    /// to no record, or if no kept module contains the return address there.
     #[tactic(auto, using(crate::proofs::AddressLemmas::none_after), unfolding(crate::specs::Frames::caller_at))]
     pub fn caller_of(&self, frame: &StackFrame) -> Option<StackFrame>
         ensures { result ≡ caller_of (stack_of self.now) frame.now }

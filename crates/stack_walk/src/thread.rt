@@ -30,8 +30,8 @@ pub struct Process<'l, 'a> {
     /// What is known of the regions of the memory.
     pub infos: &'l UnifiedMemoryInfoList<'a>,
     /// How many of the low bits of a return address are its address, as
-    /// [`code_bits`](crate::code_bits) returns it for the system and the modules. With another number
-    /// callers are lost.
+    /// [`code_bits`](crate::code_bits) returns it for the system and the modules. With another
+    /// number callers are lost.
     pub code_bits: u32,
 }
 
@@ -40,9 +40,9 @@ pub struct Process<'l, 'a> {
 ///
 /// The context is the exception's, if that happened on the thread and its context is accepted, and
 /// else the thread's own. The stack is the region that holds the byte at the context's stack
-/// pointer: [`MinidumpThread::stack_memory`], if it does, else the kept region of the memory, as for
-/// a handler or a coroutine. Where neither does, it is `stack_memory` all the same. The only error
-/// is `OutOfMemory`, which comes only if there is a context.
+/// pointer: [`MinidumpThread::stack_memory`], if it does, else the kept region of the memory, as
+/// for a handler or a coroutine. Where neither does, it is `stack_memory` all the same. The only
+/// error is `OutOfMemory`, which comes only if there is a context.
 pub fn walk_thread<'a>(
     alloc: Global,
     process: &Process<'_, 'a>,
@@ -150,7 +150,7 @@ impl<'l, 'a> Process<'l, 'a> {
         self.stack_on(stack_memory(self.memory, thread, context.get_stack_pointer()))
     }
 
-    /// Returns the stack that lies in a region of memory, or that of no memory.
+    /// Returns the stack that a region of memory holds, or for `None` one without memory.
     pub fn stack_on(&self, memory: Option<UnifiedMemory<'l, 'a>>) -> Stack<'l, 'a>
         ensures { walked.stack_of result ≡ stack_in (process_of self.now)
             (option_map unified_region memory.entry) }

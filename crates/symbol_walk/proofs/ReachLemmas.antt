@@ -1,8 +1,7 @@
 -- The caller of a frame stands on the stack, above it, or for a context's frame at it: so each frame has one list of callers.
 use Rattle.std.proofs.Common.{◌≡◌, ℕ, suc, ◌+◌, ◌-◌, ◌<◌, ◌≤◌, ◌⊎◌, inl, inr, List, [], ◌∷◌, length, Option, Some, None, Bool, true, false, refl, arith}
 use Rattle.std.specs.Prelude.{All, cond, ◌↔◌, if◌then◌else◌}
-use Rattle.std.specs.List.{cons_option, find, range_with_len}
-use Rattle.std.specs.Option.{option_and_then}
+use Rattle.std.specs.List.{find, range_with_len}
 use Rattle.std.proofs.lemmas.Bool.Decides.{nat_tests}
 use Rattle.std.proofs.lemmas.Bool.{and_parts}
 use Rattle.std.proofs.lemmas.List.Elements.{All-head, All-tail}
@@ -151,12 +150,7 @@ found_from u f a n = find (restarts u f) (word_candidates u.stack (a, n))
 
 -- the walk doesn't go on from the first word
 skips : (u : UnwinderValue) (f : StackFrame) (a n : ℕ) → restart_at u f a ≡ None → found_from u f a (suc n) ≡ found_from u f (a + 1) n
-skips u f a n none = by (word_candidate u.stack a) (word_candidates u.stack (a + 1, n)) none
-  where
-    by : (o : Option StackFrame) (rest : List StackFrame) → option_and_then (λ candidate. if restarts u f candidate then Some candidate else None) o ≡ None
-        → find (restarts u f) (cons_option o rest) ≡ find (restarts u f) rest
-    by None rest e = refl
-    by (Some c) rest e = grind arith
+skips u f a n none = grind (arith, none)
 
 pub found_later : (u : UnwinderValue) (f : StackFrame) (first i n : ℕ) → i < n → restart_at u f (first + i) ≡ None
     → found_from u f (first + i) (n - i) ≡ found_from u f (first + (i + 1)) (n - (i + 1))

@@ -1,5 +1,5 @@
 -- Without symbols a walk is that by frame pointers.
-use Rattle.std.proofs.Common.{◌≡◌, ◌∙◌, ℕ, List, [], ◌∷◌, Bool, false, Option, Some, None, refl, ap, sym, arith}
+use Rattle.std.proofs.Common.{◌≡◌, ℕ, List, [], ◌∷◌, Bool, false, Option, Some, None, refl, ap, arith}
 use Rattle.std.specs.List.{find}
 use Rattle.std.specs.Option.{option_and_then, option_map, option_map_or}
 use Rattle.minidump.specs.Below.Modules.Module.{ModuleValue}
@@ -51,16 +51,8 @@ caller_is u f none = (let rules = no_rules u f none in let restart = no_restart 
 
 as_pointers : (u : UnwinderValue) (f : FrameValue) (gs : List FrameValue) (last : FrameValue) → HaveNone u.symbols
     → AreCallers (caller_of u) f gs last → AreCallers (pointer_caller u.stack) f.frame (plain_frames gs) last.frame
-as_pointers u f [] last none are = (by (pointer_caller u.stack f.frame) (sym (caller_is u f none) ∙ are.0), ap (λ (g : FrameValue). g.frame) are.1)
-  where
-    by : (o : Option StackFrame) → option_map (pointer_frame u) o ≡ None → o ≡ None
-    by None e = refl
-    by (Some x) e = cc
-as_pointers u f (g ∷ gs) last none are = (by (pointer_caller u.stack f.frame) (sym (caller_is u f none) ∙ are.0), as_pointers u g gs last none are.1)
-  where
-    by : (o : Option StackFrame) → option_map (pointer_frame u) o ≡ Some g → o ≡ Some g.frame
-    by None e = cc
-    by (Some x) e = (let same : Some (pointer_frame u x) ≡ Some g = e in let is : pointer_frame u x ≡ g = cc in ap (λ (h : FrameValue). Some h.frame) is)
+as_pointers u f [] last none are = (grind (arith, caller_is u f none, are.0), ap (λ (g : FrameValue). g.frame) are.1)
+as_pointers u f (g ∷ gs) last none are = (grind (arith, caller_is u f none, are.0), as_pointers u g gs last none are.1)
 
 -- the frames from one on, and the last of them
 pub pointers_alone : (u : UnwinderValue) (first : FrameValue) → HaveNone u.symbols

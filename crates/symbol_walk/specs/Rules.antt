@@ -55,8 +55,8 @@ state_of s = state_in (stack_of s.stack.now) (map row_of s.table.now) (map known
     (bits_of s.width)
 
 -- the rules of a frame: the unwind information, the offset in the module at which it is read, the
--- known registers of the frame, what rules refer to, and how many of the low bits of a return address
--- are its address
+-- known registers of the frame, what rules refer to, and how many of the low bits of a return
+-- address are its address
 pub record RulesValue : Type 0 where
   pub cfi : CfiValue
   pub offset : ℕ
@@ -89,8 +89,8 @@ rules_at u f = option_and_then (λ bits. option_and_then (λ address. option_and
 
 -- ---- where they return to
 
--- the canonical frame address, and the return address without the bits that may sign it, where rules
--- have a value for both
+-- the canonical frame address, and the return address without the bits that may sign it, where
+-- rules have a value for both
 unfoldable pub returns : RulesValue → Option Return
 returns r = option_and_then (λ frame. option_map
     (λ word. record { frame_address = frame; return_address = unsigned r.code_bits word })
@@ -119,8 +119,8 @@ abbrev pub is_instruction_pointer : RegisterRole → Bool
 is_instruction_pointer InstructionPointer = true
 is_instruction_pointer _ = false
 
--- the value of a register in the caller: the instruction pointer is the return address, and any other
--- has the value by its rule, or else by the calling convention
+-- the value of a register in the caller: the instruction pointer is the return address, and any
+-- other has the value by its rule, or else by the calling convention
 abbrev pub caller_value : RulesValue → Return → RegisterRow → Option ℕ
 caller_value r back row = if is_instruction_pointer row.role then Some back.return_address
     else option_map_or (value_of r.state (Some back.frame_address))
@@ -144,9 +144,9 @@ abbrev pub is_on_stack : StackValue → ℕ → Bool
 is_on_stack s address = option_map_or (λ r. nat_le r.base_address address
     && nat_le address (r.base_address + length r.bytes)) s.region false
 
--- whether the stack of a frame goes on at an address, as the stack pointer of its caller: it is above
--- that of the frame. That of a context may be it: a function that has pushed nothing, with its return
--- address in a register, has its caller's
+-- whether the stack of a frame goes on at an address, as the stack pointer of its caller: it is
+-- above that of the frame. That of a context may be it: a function that has pushed nothing, with
+-- its return address in a register, has its caller's
 unfoldable pub goes_on : StackValue → StackFrame → ℕ → Bool
 goes_on s f address = is_on_stack s address && (if is_of_context f.trust
     then nat_le f.stack_pointer address else nat_lt f.stack_pointer address)

@@ -46,14 +46,14 @@ first_frame c = record {
       (register_table c.raw);
 }
 
--- what a frame alone says of a register with a role
+-- the value that the pointers of a frame give a register with a role
 abbrev pub pointer_value : StackFrame → RegisterRole → Option ℕ
 pointer_value f InstructionPointer = Some f.instruction
 pointer_value f StackPointer = Some f.stack_pointer
 pointer_value f FramePointer = f.frame_pointer
 pointer_value f _ = None
 
--- a frame of which its pointers alone are known
+-- a frame of whose registers only the pointers are known
 abbrev pub pointer_frame : UnwinderValue → StackFrame → FrameValue
 pointer_frame u f = record {
   frame = f;

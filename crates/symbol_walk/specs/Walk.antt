@@ -88,8 +88,8 @@ end_of u f = unwrap_or (end_by_rules u f) (Walk (walk_end u.stack f.frame))
 
 -- ---- the callers
 
--- the callers of a frame, the innermost first. Each has a stack pointer of its own: an address of the
--- stack, or the one after it
+-- the callers of a frame, the innermost first. Each has a stack pointer of its own: an address of
+-- the stack, or the one after it
 abbrev pub callers_in : UnwinderValue → FrameValue → List FrameValue
 callers_in u = callers_of (caller_of u) (length (stack_bytes u.stack) + 1)
 
@@ -109,12 +109,12 @@ symbol_walk_of w = record {
   end = w.end;
 }
 
--- the frames alone
+-- the frames without their registers
 abbrev pub plain_frames : List FrameValue → List StackFrame
 plain_frames frames = map (λ f. f.frame) frames
 
--- the walk from a frame with this link register: it and its callers, the candidates of these, at most
--- so many, and why there is no further caller
+-- the walk from a frame with this link register: it and its callers, the candidates of these, at
+-- most so many, and why there is no further caller
 abbrev pub walk_from : UnwinderValue → FrameValue → Option ℕ → ℕ → SymbolWalkValue
 walk_from u first link limit =
     let callers = callers_in u first in record {

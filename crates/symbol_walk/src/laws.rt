@@ -26,8 +26,8 @@ pub fn without_symbols_a_walk_is_by_frame_pointers()
         → (symbol_walk_in s symbols c limit).end ≡ Walk (walk_in s c limit).end }
 {}
 
-/// A frame has exactly one list of callers: each is the caller of the one before it, and the last has
-/// none.
+/// A frame has exactly one list of callers: each is the caller of the one before it, and the last
+/// has none.
 #[tactic(auto, using(crate::proofs::ReachLemmas::callers_by))]
 pub fn one_list_of_callers()
     ensures { (u : UnwinderValue) (f : FrameValue) (callers : List FrameValue) (last : FrameValue)
@@ -43,7 +43,7 @@ pub fn rules_give_the_registers()
         → IsByRules u f g }
 {}
 
-/// There is at most one caller for each byte of the stack, and one more.
+/// A walk has the context's frame, and at most one caller more than the stack has bytes.
 #[tactic(auto, using(stack_walk::proofs::CallerLemmas::few_callers))]
 pub fn frames_are_few()
     ensures { (s : StackValue) (symbols : List (Option SymbolsValue)) (c : MinidumpContext)

@@ -1,11 +1,11 @@
-//! Walks the stack of a thread by the symbols of its modules: its frames, each with what is known of
-//! its registers.
+//! Walks the stack of a thread by the symbols of its modules: its frames, each with what is known
+//! of its registers.
 //!
 //! - The first frame is that of the thread's context.
-//! - Its callers follow by the rules of their modules' symbol files: [`FrameTrust::Cfi`]. Where a module
-//!   has no symbols, or its rules give no caller, the caller is that by the frame pointer, as in
-//!   [`stack_walk`]; or else the walk starts again at the first of the next words of the stack that may
-//!   be a return address into a function of the symbols: [`FrameTrust::Scan`].
+//! - Its callers follow by the rules of their modules' symbol files: [`FrameTrust::Cfi`]. Where a
+//!   module has no symbols, or its rules give no caller, the caller is that by the frame pointer,
+//!   as in [`stack_walk`]; or else the walk starts again at the first of the next words of the
+//!   stack that may be a return address into a function of the symbols: [`FrameTrust::Scan`].
 //! - The walk ends where the rules say that a frame has no caller, or where neither its rules nor
 //!   its frame pointer nor the next words give one.
 //!
@@ -21,21 +21,23 @@
 //! looked up ([`StackFrame::lookup_address`]). They refer to the known registers, and to the words
 //! of the stack. `.ra` gives the instruction pointer of the caller, on ARM64 without the bits that
 //! may sign it, and `.cfa` its stack pointer, unless the stack pointer has a rule of its own. Each
-//! other register has the value of its rule.
-//! Without a rule, a register that functions keep for their callers has its value in the callee,
-//! and any other isn't known.
+//! other register has the value of its rule. Without a rule, a register that functions keep for
+//! their callers has its value in the callee, and any other isn't known.
 //!
 //! The stack pointer of a caller lies on the stack or right after it, and above that of its callee.
-//! It may equal that of a context's frame, whose return address may be in a register. The walk
-//! starts again at one of the 40 aligned words from the stack pointer of a context's frame on, or
-//! of the 30 from that of another frame. No other word is looked at for this.
+//! Only the caller of a context's frame, whose return address may be in a register, may have the
+//! stack pointer of its callee.
+//!
+//! Where the walk starts again, it does so at one of the 40 aligned words from the stack pointer of
+//! a context's frame on, or of the 30 from that of another frame.
 //!
 //! # The candidates
 //!
-//! They are those that [`stack_walk`] has for these frames and the link register of the context: that
-//! register, of the words from the last frame's stack pointer on, and, where the caller of the first
-//! frame is by its frame pointer, of those of the first frame below its record. Where rules say where the
-//! caller stands, neither the register nor a word of the frame is one.
+//! The candidates of a walk are those that [`stack_walk`] finds for its frames and the link
+//! register of the context: the link register; words from the last frame's stack pointer on; and,
+//! where the caller of the first frame is by its frame pointer, words of the first frame below its
+//! record. Where that caller is by rules, which say where its return address is, neither the link
+//! register nor a word of the first frame is a candidate.
 //!
 //! [`StackFrame::lookup_address`]: stack_walk::StackFrame::lookup_address
 //!

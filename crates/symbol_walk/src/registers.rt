@@ -1,7 +1,7 @@
-//! The registers of a processor.
-ghost use Rattle.std.specs.Prelude.{◌≡◌, ◌++◌, [], IfOk, OnOk, map};
-ghost use Rattle.std.specs.List.{cons_option, find};
-ghost use Rattle.std.specs.Option.{option_copied, option_map};
+//! The registers of each processor, and those of a frame whose values are known.
+ghost use Rattle.std.specs.Prelude.{◌≡◌, IfOk, map};
+ghost use Rattle.std.specs.List.{find};
+ghost use Rattle.std.specs.Option.{option_copied};
 ghost use Rattle.std.specs.Str.{bytes_eq};
 ghost use Rattle.symbol_walk.specs.Registers.{is_frame_pointer, is_stack_pointer};
 ghost use Rattle.symbol_walk.specs.Registers.{known_by, known_frame_pointer, known_of};
@@ -39,7 +39,7 @@ pub(crate) struct Register {
 pub(crate) enum RegisterRole {
     InstructionPointer,
     StackPointer,
-    // a saved register
+    // a function keeps its value for the caller, as that of a saved register
     FramePointer,
     // a function keeps its value for the caller
     Saved,
@@ -119,7 +119,7 @@ pub(crate) fn register_table(raw: &MinidumpRawContext) -> &'static [Register]
 pub(crate) enum RegisterSource<'r, 'f, 'l, 'a, 's> {
     // a context, by its valid registers
     Context(&'r MinidumpContext),
-    // a frame of which its pointers alone are known
+    // a frame of whose registers only the pointers are known
     Pointers(StackFrame),
     // the rules of the callee, and where they return to
     Rules(&'r Rules<'f, 'l, 'a, 's>, Return),
@@ -138,7 +138,10 @@ pub(crate) fn known_by(
     let mut known = Vec::new(alloc);
     for register in table {
         let value = value_by(alloc, by, register)?;
-        push_known(&mut known, register, value)?;
+        if let Some(value) = value {
+            let name = register.name;
+            known.push(KnownRegister { name, value })?;
+        }
     }
     Ok(known)
 }
@@ -158,7 +161,8 @@ fn value_by(
     }
 }
 
-// Returns what a frame alone says of a register with a role.
+// Returns the value that the pointers of a frame give a register with a role, or `None` if they
+// give none.
 fn pointer_value(frame: &StackFrame, role: RegisterRole) -> Option<u64>
     ensures { result ≡ pointer_value frame.now role }
 {
@@ -167,24 +171,6 @@ fn pointer_value(frame: &StackFrame, role: RegisterRole) -> Option<u64>
         RegisterRole::StackPointer => Some(frame.stack_pointer),
         RegisterRole::FramePointer => frame.frame_pointer,
         RegisterRole::Saved | RegisterRole::Scratch => None,
-    }
-}
-
-// Appends a register, if its value is known.
-fn push_known(
-    known: &mut Vec<KnownRegister>,
-    register: &Register,
-    value: Option<u64>,
-) -> Result<(), AllocError>
-    ensures { OnOk result (map known_of known.new.items ≡ map known_of known.old.items
-        ++ cons_option (option_map (λ v. (register.now.name.now, v)) value) []) }
-{
-    match value {
-        Some(value) => {
-            let name = register.name;
-            Ok(known.push(KnownRegister { name, value })?)
-        }
-        None => Ok(()),
     }
 }
 

@@ -19,13 +19,13 @@ use minidump::system_info::PointerWidth;
 use stack_walk::{FrameTrust, Stack, StackFrame};
 use std::alloc::{AllocError, Global};
 
-// The known registers of a frame by their labels, and the words of the stack.
+// What rules refer to in a frame: its known registers, by their labels, and the words of the stack.
 #[derive(Clone, Copy)]
-pub(crate) struct FrameState<'f, 'l, 'a> {
-    pub(crate) stack: &'f Stack<'l, 'a>,
-    pub(crate) table: &'static [Register],
-    pub(crate) known: &'f [KnownRegister],
-    pub(crate) width: AddressWidth,
+struct FrameState<'f, 'l, 'a> {
+    stack: &'f Stack<'l, 'a>,
+    table: &'static [Register],
+    known: &'f [KnownRegister],
+    width: AddressWidth,
 }
 
 impl UnwindState for FrameState<'_, '_, '_> {
@@ -47,7 +47,7 @@ impl UnwindState for FrameState<'_, '_, '_> {
 }
 
 // Returns the width of an address, if it is known.
-pub(crate) fn address_width(width: PointerWidth) -> Option<AddressWidth>
+fn address_width(width: PointerWidth) -> Option<AddressWidth>
     ensures { option_map bits_of result ≡ address_bits width }
 {
     match width {
@@ -59,22 +59,22 @@ pub(crate) fn address_width(width: PointerWidth) -> Option<AddressWidth>
 
 // ---- the rules of a frame
 
-// The rules of a frame: the unwind information, the offset at which it is read, and what it refers
-// to.
+// The rules of a frame: the unwind information, the offset in the module at which it is read, and
+// what the rules refer to.
 #[derive(Clone, Copy)]
 pub(crate) struct Rules<'f, 'l, 'a, 's> {
-    pub(crate) cfi: &'f CfiRecord<'s>,
-    pub(crate) offset: u64,
-    pub(crate) state: FrameState<'f, 'l, 'a>,
+    cfi: &'f CfiRecord<'s>,
+    offset: u64,
+    state: FrameState<'f, 'l, 'a>,
 }
 
 // Where the rules of a frame return to.
 #[derive(Clone, Copy)]
 pub(crate) struct Return {
     // the canonical frame address
-    pub(crate) frame_address: u64,
+    frame_address: u64,
     // without the bits that may sign it
-    pub(crate) return_address: u64,
+    return_address: u64,
 }
 
 impl<'w, 'l, 'a, 's> Unwinder<'w, 'l, 'a, 's> {
@@ -164,8 +164,8 @@ impl Rules<'_, '_, '_, '_> {
         Ok(Some(KnownFrame { frame, registers }))
     }
 
-    // Returns the value of a register in the caller: the return address, or that by its rule, or else
-    // by the calling convention.
+    // Returns the value of a register in the caller: the return address, or that by its rule, or
+    // else by the calling convention.
     pub(crate) fn caller_value(
         &self,
         alloc: Global,

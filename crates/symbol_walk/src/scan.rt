@@ -1,33 +1,20 @@
 //! Where a walk starts again.
 ghost use Rattle.std.specs.Prelude.{◌≡◌, ◌+◌};
-ghost use Rattle.std.specs.List.{find};
-ghost use Rattle.stack_walk.specs.Frames.{word_candidates};
-ghost use Rattle.symbol_walk.specs.Walk.{restart_at, restart_of, restarts, scanned_words};
+ghost use Rattle.symbol_walk.specs.Walk.{restart_at, restart_of, scanned_words};
 ghost use Rattle.symbol_walk.specs.Unwinder.{unwinder_of};
 
 use crate::rules::goes_on;
 use crate::walk::{Unwinder, function_at};
-use minidump::system_info::PointerWidth;
 use stack_walk::{FrameTrust, StackFrame};
 
 impl Unwinder<'_, '_, '_, '_> {
     // Returns the first candidate after a frame from which the walk goes on.
-    #[tactic(auto, unfolding(crate::specs::Walk::restart_of))]
+    #[tactic(auto, using(stack_walk::proofs::AddressLemmas::some_bytes), unfolding(crate::specs::Walk::restart_of))]
     pub(crate) fn restart_of(&self, frame: &StackFrame) -> Option<StackFrame>
         ensures { result ≡ restart_of (unwinder_of self.now) frame.now }
     {
-        match self.stack.width {
-            PointerWidth::Bits32 => self.first_restart(frame, frame.stack_pointer.div_ceil(4)),
-            PointerWidth::Bits64 => self.first_restart(frame, frame.stack_pointer.div_ceil(8)),
-            PointerWidth::Unknown => None,
-        }
-    }
-
-    // Returns the first candidate among the next words, from a number of an aligned word on.
-    fn first_restart(&self, frame: &StackFrame, first: u64) -> Option<StackFrame>
-        ensures { result ≡ find (restarts (unwinder_of self.now) frame.now)
-            (word_candidates (unwinder_of self.now).stack (first, scanned_words frame.now.trust)) }
-    {
+        let size = self.stack.width.size_in_bytes()?;
+        let first = frame.stack_pointer.div_ceil(size as u64);
         for index in 0..scanned_words(frame) {
             if let Some(candidate) = self.restart_at(frame, first, index) {
                 return Some(candidate);
@@ -36,8 +23,9 @@ impl Unwinder<'_, '_, '_, '_> {
         None
     }
 
-    // Returns the candidate of the aligned word that so many words come before, if the walk goes on
-    // from it: the stack goes on there, and its call lies in a function of the symbols.
+    // Returns the candidate of the aligned word with the number `first + index`, if the walk goes
+    // on from it: if the stack goes on at its stack pointer, and its call lies in a function of the
+    // symbols.
     #[tactic(auto, unfolding(crate::specs::Walk::restarts, crate::specs::Walk::in_function))]
     fn restart_at(&self, frame: &StackFrame, first: u64, index: usize) -> Option<StackFrame>
         ensures { result ≡ restart_at (unwinder_of self.now) frame.now (first + index) }

@@ -44,8 +44,8 @@ pub struct KnownFrame {
 pub struct SymbolWalk {
     /// The frame of the context and its callers, the innermost first.
     pub frames: Vec<KnownFrame>,
-    /// The candidates of the frames: the link register of the context and words of the stack that may
-    /// be return addresses.
+    /// The candidates of the frames: the link register of the context and words of the stack that
+    /// may be return addresses.
     pub candidates: Vec<StackFrame>,
     /// Why the last frame has no caller.
     pub end: SymbolWalkEnd,
@@ -92,7 +92,8 @@ pub(crate) struct Unwinder<'w, 'l, 'a, 's> {
 }
 
 impl<'w, 's> Unwinder<'w, '_, '_, 's> {
-    // Returns the symbols of the kept module that contains an address, and the offset in that.
+    // Returns the symbols of the kept module that contains an address, and the offset of the
+    // address in it, or `None` if they aren't known.
     #[tactic(auto, unfolding(crate::specs::Symbols::symbols_at))]
     pub(crate) fn symbols_at(&self, address: u64) -> Option<(&'w SymbolFile<'s>, u64)>
         ensures { option_map (λ p. (symbols_of p.0.now, p.1)) result ≡ symbols_at
@@ -104,14 +105,14 @@ impl<'w, 's> Unwinder<'w, '_, '_, 's> {
     }
 }
 
-// Returns the kept rules of an offset.
+// Returns the kept rules of an offset, or `None` if none have it.
 pub(crate) fn cfi_at<'w, 's>(symbols: &'w SymbolFile<'s>, offset: u64) -> Option<&'w CfiRecord<'s>>
     ensures { option_map cfi_of (option_copied result) ≡ cfi_at (symbols_of symbols.now) offset }
 {
     symbols.cfi_at(offset, &mut Steps::new())
 }
 
-/// Returns the kept function of a symbol file that has an offset.
+/// Returns the kept function of a symbol file that contains an offset, or `None` if none does.
 pub fn function_at<'w, 's>(symbols: &'w SymbolFile<'s>, offset: u64) -> Option<&'w Function<'s>>
     ensures { option_map function_of (option_copied result)
         ≡ function_at (symbols_of symbols.now) offset }
@@ -122,7 +123,7 @@ pub fn function_at<'w, 's>(symbols: &'w SymbolFile<'s>, offset: u64) -> Option<&
 // ---- callers
 
 impl Unwinder<'_, '_, '_, '_> {
-    // Walks from a frame with this link register.
+    // Walks from the frame of a context that has this link register.
     fn walk(
         &self,
         alloc: Global,
@@ -145,7 +146,7 @@ impl Unwinder<'_, '_, '_, '_> {
         })
     }
 
-    // Returns a frame and its callers but the last of them, and that one.
+    // Returns a frame and its callers: the last of all these apart, the others in a list.
     fn climb(
         &self,
         alloc: Global,
@@ -166,7 +167,8 @@ impl Unwinder<'_, '_, '_, '_> {
         Ok((frames, last))
     }
 
-    // Returns the caller of a frame: by its rules, unless they end the walk, or else without them.
+    // Returns the caller of a frame: that by its rules, or else that without them. Where the rules
+    // end the walk, there is none.
     #[tactic(auto, unfolding(crate::specs::Walk::caller_of, crate::specs::Walk::caller_by_rules))]
     fn caller_of(&self, alloc: Global, known: &KnownFrame) -> Result<Option<KnownFrame>, AllocError>
         ensures { IfOk result (λ caller. option_map frame_of caller
@@ -184,7 +186,8 @@ impl Unwinder<'_, '_, '_, '_> {
         self.caller_without(alloc, known)
     }
 
-    // Returns the caller by the frame pointer, or else the candidate from which the walk starts again.
+    // Returns the caller by the frame pointer, or else the candidate from which the walk starts
+    // again.
     fn caller_without(
         &self,
         alloc: Global,
@@ -202,7 +205,7 @@ impl Unwinder<'_, '_, '_, '_> {
         }
     }
 
-    // Returns a frame of which its pointers alone are known.
+    // Returns a frame of whose registers only the pointers are known.
     fn pointer_frame(&self, alloc: Global, frame: StackFrame) -> Result<KnownFrame, AllocError>
         ensures { IfOk result (λ f. frame_of f ≡ pointer_frame (unwinder_of self.now) frame) }
     {
@@ -237,7 +240,7 @@ impl Unwinder<'_, '_, '_, '_> {
     }
 }
 
-/// Returns the frames alone. The only error is that no memory is left.
+/// Returns the frames without their registers. The only error is that no memory is left.
 pub fn plain_frames(alloc: Global, frames: &[KnownFrame]) -> Result<Vec<StackFrame>, AllocError>
     ensures { IfOk result (λ plain. plain.items ≡ plain_frames (map frame_of frames.now)) }
 {

@@ -25,7 +25,7 @@ text_limits options = record {
   environment = options.environment;
 }
 
--- those of the JSON: of the text's those that it has, too
+-- the limits of the JSON, which are among those of the text
 abbrev pub json_limits : TextLimits → JsonLimits
 json_limits limits = record { frames = limits.frames; environment = limits.environment }
 
@@ -47,11 +47,12 @@ form_in Html limits path symbols c = page_with (json_in limits path symbols c)
 abbrev pub shown_with : KnownSymbols → List (Option BacktraceValue) → SymbolizedValue
 shown_with known threads = record { states = known.states; threads = threads }
 
--- a text is what is printed of a crash by symbol files: each file is that of its module, a module is
--- said to have its symbols exactly where its file is known, and the backtraces are those that the files
--- give, with at most so many candidates a thread
+-- a text is what is printed of a crash by symbol files: each file is that of its module, a module
+-- is said to have its symbols exactly where its file is known, and the backtraces are those that
+-- the files give, with at most so many candidates a thread
 pub record IsByFiles (form : Form) (limits : TextLimits) (scan : ℕ) (path : List ℕ) (c : CrashValue)
     (printed : List ℕ) : Type 0 where
   pub known : KnownSymbols
   pub sound : IsSound c.modules.loaded known
-  pub same : printed ≡ form_in form limits path (Some (shown_with known (backtraces_in c known scan))) c
+  pub same : printed ≡
+      form_in form limits path (Some (shown_with known (backtraces_in c known scan))) c

@@ -21,8 +21,8 @@ pub(crate) fn complain<E: fmt::Display>(
     Ok(())
 }
 
-/// Prints a line on a path and an error to standard error, or that memory ran out if it did for that
-/// line too.
+/// Prints a line on a path and an error to standard error, or that memory ran out if it did for
+/// that line too.
 pub(crate) fn complain_in_any_case(rt: &HostRuntime, path: &str, error: &io::Error) {
     if complain(rt, path, error).is_err() {
         say(rt, "whocrashed: Out of memory\n");

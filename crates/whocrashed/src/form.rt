@@ -14,7 +14,7 @@ use std::alloc::AllocError;
 use std::str;
 use whocrashed_inputs::{Form, SymbolCache, unknown};
 
-// How often further symbol files are looked for, for one dump.
+// The most rounds in which symbol files are looked for, for one dump.
 const ROUNDS: usize = 64;
 
 impl Reporter<'_, '_, '_> {
@@ -31,8 +31,8 @@ impl Reporter<'_, '_, '_> {
             ≡ form_in self.now.options.now.form (text_limits self.now.options.now) path.now None
             (crash_of crash.now)) }
         ensures by_files { has_dirs self.now.options.now ≡ true → IfOk result (λ form. IsByFiles
-            self.now.options.now.form (text_limits self.now.options.now) self.now.options.now.scan path.now
-            (crash_of crash.now) form.items) }
+            self.now.options.now.form (text_limits self.now.options.now)
+            self.now.options.now.scan path.now (crash_of crash.now) form.items) }
     {
         if self.options.symbols.is_empty() {
             return self.form_by(path, crash, None);
@@ -66,8 +66,8 @@ impl Reporter<'_, '_, '_> {
         symbols: Option<&Symbolized<'_, '_>>,
     ) -> Result<Vec<u8>, AllocError>
         ensures { IfOk result (λ form. form.items ≡ form_in self.now.options.now.form
-            (text_limits self.now.options.now) path.now (option_map symbolized_of (option_copied symbols.entry))
-            (crash_of crash.now)) }
+            (text_limits self.now.options.now) path.now
+            (option_map symbolized_of (option_copied symbols.entry)) (crash_of crash.now)) }
     {
         let alloc = self.rt.alloc();
         let options = self.options;

@@ -2,45 +2,47 @@
 //! example of a program on `minidump`, the crates above it and `clap`. The README shows its output.
 //! `whocrashed --help` prints its options.
 //!
-//! Of each dump, in the order of the arguments, and then of the paths that `--stdin-paths` takes from
-//! standard input, it prints
+//! Of each dump, in the order of the arguments, and then of the paths that `--stdin-paths` takes
+//! from standard input, it prints
 //!
-//! - the lines of [`crash_text::text_of`], under the dump's path if there are several, and with
-//!   `--stdin-paths` under that of a single one, too;
+//! - the lines of [`crash_text::text_of`], under the dump's path if there are several arguments,
+//!   and always with `--stdin-paths`;
 //! - with `--json` the line of JSON of [`crash_json::json_of`]. A file that can't be read, or is
 //!   no dump, has a line too, whose `status` says why, so that there are as many lines as dumps;
 //! - with `--html`, which takes one dump, the page of [`crash_html::page`].
 //!
 //! A dump is read once, into a [`crash::Crash`], and all three are made of that. `-` is the dump on
-//! standard input. Codes have the names of [`known_names::text`], unless `--only-names` leaves these
-//! out, and those of the files of `--names`.
+//! standard input. Codes have the names of [`known_names::text`], unless `--only-names` leaves
+//! these out, and those of the files of `--names`.
 //!
-//! With `--symbols` frames have functions and source lines, by [`crash_symbols`]. The backtraces are
-//! found with the symbol files that are known so far, the files of the modules in which frames or
-//! candidates then lie are read, and so on until none is wanted, at most 64 times. A word at a module
-//! says that its file is missing or damaged. A symbol file that was read is kept until the run ends.
+//! With `--symbols` frames have functions and source lines, by [`crash_symbols`]. The backtraces
+//! are found with the symbol files that are known so far, the files of the modules in which frames
+//! or candidates then lie are read, and so on until none is wanted, at most 64 times. A word at a
+//! module says that its file is missing or damaged. A symbol file that was read is kept until the
+//! run ends.
 //!
 //! # Errors
 //!
 //! Status 1: a file can't be read, has more bytes than `--limit`, or is no dump, which is said on
 //! standard error, or in its line of JSON; or something of a dump is there and can't be read,
-//! whatever the form; or the list of paths can't be read or is too large; or memory ran out for a
-//! dump. The other dumps are printed all the same. Status 1 also if a file of `--names` can't be
-//! read or is malformed, and then no dump is read; and if memory ran out for anything else, or the
-//! output failed, which ends the program. Status 2: the arguments are malformed, or one isn't
-//! UTF-8. A closed pipe ends the program quietly, with the status of the dumps before.
+//! whatever the form; or the list of paths can't be read or is too large, or a path in it isn't
+//! UTF-8; or memory ran out for a dump. The other dumps are printed all the same. Status 1 also if
+//! a file of `--names` can't be read or is malformed, and then no dump is read; and if memory ran
+//! out for anything else, or the output failed, which ends the program. Status 2: the arguments are
+//! malformed or refused, or one isn't UTF-8. A closed pipe ends the program quietly, with the
+//! status of the dumps before.
 //!
 //! # What is proved
 //!
-//! What it is given is that of [`whocrashed_inputs`]: the options, the dumps and the symbol files.
-//! The status of a dump is that of the crash that its bytes hold, whatever the form:
-//! `report_bytes`. It is 1 for a file that can't be read or is too large, and may be 1 for any
-//! where memory ran out: `report`. Arguments that give no options have status 0 if they ask for the
-//! help or the version, 1 if memory ran out, and else 2: `answer`, `complain_of_arguments`. The
-//! status of a run is the greatest of its dumps', for whatever reads them: `report_each`,
-//! `report_dumps`. No status is above 2: `run`. What is made of a crash is its text, its JSON or
-//! its page, by the options and by such files: `form_of`. The line of JSON of a file that is no
-//! dump is its path and why: `error_line`. That these are what is printed is not proved.
+//! The options, the dumps and the symbol files are those of [`whocrashed_inputs`]. The status of a
+//! dump is that of the crash that its bytes hold, whatever the form: `report_bytes`. It is 1 for a
+//! file that can't be read or is too large, and may be 1 for any where memory ran out: `report`.
+//! Arguments that give no options have status 0 if they ask for the help or the version, 1 if
+//! memory ran out, and else 2: `answer`, `complain_of_arguments`. The status of a run is the
+//! greatest of its dumps', for whatever reads them: `report_each`, `report_dumps`. No status is
+//! above 2: `run`. What is made of a crash is its text, its JSON or its page, by the options and by
+//! symbol files of its modules: `form_of`. The line of JSON of a file that is no dump is its path
+//! and why: `error_line`. That these are what is printed is not proved.
 #![tactic(auto)]
 
 mod complain;

@@ -5,9 +5,9 @@ use std::collections::BTreeMap;
 use std::{fs, io};
 use whocrashed_inputs::Options;
 
-/// Returns the text of the names that are asked for: those that are compiled in, unless they are left
-/// out, and those of each file. Of two names of a code that of the later file counts. Returns `None`
-/// if a file can't be read, or isn't one of names, which it says on standard error.
+/// Returns the text of the names that are asked for: those that are compiled in, unless they are
+/// left out, and those of each file. Of two names of a code that of the later file counts. Returns
+/// `None` if a file can't be read, or isn't one of names, which it says on standard error.
 pub(crate) fn names_text(rt: &HostRuntime, options: &Options<'_>) -> io::Result<Option<String>> {
     let known = if options.only_names {
         String::new(rt.alloc())
@@ -23,7 +23,7 @@ pub(crate) fn names_text(rt: &HostRuntime, options: &Options<'_>) -> io::Result<
     }
 }
 
-// Reads files of names. Returns `None` if one of them can't be read or isn't one, which it says.
+// Reads files of names. Returns `None` if one can't be read or isn't one of names, which it says.
 fn read_texts(rt: &HostRuntime, paths: &[&str]) -> io::Result<Option<Vec<Vec<u8>>>> {
     let mut texts = Vec::new(rt.alloc());
     for path in paths {

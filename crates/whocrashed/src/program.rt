@@ -2,7 +2,8 @@ ghost use Rattle.std.specs.Prelude.{◌≡◌, ◌<◌, ◌≤◌, ◌++◌, ℕ
 ghost use Rattle.std.specs.IoError.{error_kind};
 ghost use Rattle.clap.specs.Words.{kind_of};
 ghost use Rattle.whocrashed_inputs.specs.Input.{asked_in, asked_of, by_argument};
-ghost use Rattle.whocrashed.specs.Status.{IsGreatest, IsListOf, MayHave, status_of_kind, status_without};
+ghost use Rattle.whocrashed.specs.Status.{IsGreatest, IsListOf, MayHave, status_of_kind};
+ghost use Rattle.whocrashed.specs.Status.{status_without};
 
 use crate::complain::{complain, complain_in_any_case, say};
 use crate::names::names_text;
@@ -51,8 +52,8 @@ pub(crate) fn complain_of_arguments(rt: &HostRuntime, error: &io::Error) -> u8
     }
 }
 
-// Prints the help or the version that was asked for, or why the arguments are malformed. Returns
-// the status.
+// Prints the help or the version that was asked for, or why the arguments are malformed or refused.
+// Returns the status.
 fn answer(rt: &HostRuntime, error: &Error) -> io::Result<u8>
     ensures status { IfOk result (λ status. status ≡ status_of_kind (kind_of error.now)) }
     ensures bound { IfOk result (λ status. status ≤ 2) }
@@ -107,9 +108,9 @@ fn obey<'o>(rt: &'o HostRuntime, options: &'o Options<'_>) -> io::Result<u8>
     }
 }
 
-// Reports on the dumps of the arguments, and on those of the list on standard input if there is one.
-// Makes `worst` the greatest of their statuses and of what it was, or of 1 if the list can't be read;
-// after a failure of the output of those of the dumps before.
+// Reports on the dumps of the arguments, and on those of the list on standard input if one is asked
+// for. Makes `worst` the greatest of their statuses and of what it was, or of 1 if the list can't
+// be read or is too large. After an error only the dumps before it count.
 fn report_dumps<S: ReadDumps>(
     reporter: &Reporter<'_, '_, '_>,
     source: &S,
@@ -119,8 +120,9 @@ fn report_dumps<S: ReadDumps>(
     ensures bound { worst.new < 2 }
     ensures all { OnOk result ((list : List ℕ) × (first : ℕ)
         × IsListOf (S.reads source.now) reporter.now.options.now.are_listed worst.old list first
-        × IsGreatest (MayHave (S.reads source.now) reporter.now.names.now reporter.now.options.now.scan)
-        first (map (λ a. by_argument a.now) reporter.now.options.now.dumps.items ++ asked_in list)
+        × IsGreatest (MayHave (S.reads source.now) reporter.now.names.now
+        reporter.now.options.now.scan) first
+        (map (λ a. by_argument a.now) reporter.now.options.now.dumps.items ++ asked_in list)
         worst.new) }
 {
     let list = list_of(reporter, source, worst)?;
@@ -132,8 +134,8 @@ fn report_dumps<S: ReadDumps>(
     report_each(reporter, source, dumps.as_slice(), worst)
 }
 
-// Reads the list of paths on standard input. Returns an empty one if the options ask for none, and
-// if it can't be read, which it says, and makes `worst` 1.
+// Reads the list of paths on standard input. Returns an empty one if the options ask for none. If
+// the list can't be read or is too large, says so, makes `worst` 1 and returns an empty one.
 fn list_of<S: ReadDumps>(
     reporter: &Reporter<'_, '_, '_>,
     source: &S,
@@ -157,8 +159,8 @@ fn list_of<S: ReadDumps>(
     Ok(Vec::new(reporter.rt.alloc()))
 }
 
-// Reports on each of dumps, which `source` reads. Makes `worst` the greatest of their statuses and of
-// what it was; after a failure of the output of those of the dumps before.
+// Reports on each of the dumps, which `source` reads. Makes `worst` the greatest of their statuses
+// and of what it was. After an error only the dumps before it count.
 fn report_each<S: ReadDumps>(
     reporter: &Reporter<'_, '_, '_>,
     source: &S,

@@ -86,7 +86,8 @@ impl Reporter<'_, '_, '_> {
         Ok(())
     }
 
-    // Reports on what was read at a path, and returns its status. Running out of memory is an error.
+    // Reports on what was read at a path, and returns its status. Running out of memory is an
+    // error.
     #[tactic(auto, unfolding(crate::specs::Status::status_read))]
     fn report_file(
         &self,
@@ -130,7 +131,8 @@ impl Reporter<'_, '_, '_> {
         Ok(status)
     }
 
-    // Prints the path of a dump before its lines if it isn't the only one.
+    // Prints the path of a dump before its lines, unless it is the only argument and no list of
+    // paths is asked for.
     fn print_heading(&self, path: &str) -> io::Result<()> {
         let is_one = self.options.dumps.len() == 1 && !self.options.are_listed;
         if matches!(self.options.form, Form::Lines) && !is_one {
@@ -152,7 +154,8 @@ impl Reporter<'_, '_, '_> {
         }
     }
 
-    // Prints why there is no report on a file: on standard error, or as its line of JSON.
+    // Prints why there is no report on a file, on standard error or as its line of JSON, and
+    // returns its status, 1.
     fn report_failure<E: fmt::Display>(&self, path: &str, why: &E) -> io::Result<u8>
         ensures { IfOk result (λ status. status ≡ 1) }
     {

@@ -10,8 +10,8 @@ use Rattle.whocrashed_inputs.specs.declared.input.Dump.TheVariants as dump
 abbrev pub within : ℕ → List ℕ → Option (List ℕ)
 within limit bytes = if nat_lt limit (length bytes) then None else Some bytes
 
--- a dump that is asked for: the one on standard input, that in the file of a path, or one whose path
--- is no text
+-- a dump that is asked for: the one on standard input, that in the file of a path, or one whose
+-- path isn't UTF-8
 pub data Asked : Type 0 where
   Input : Asked
   File : (path : List ℕ) → Asked
@@ -24,7 +24,7 @@ on_input = Input
 abbrev pub in_file : List ℕ → Asked
 in_file path = File path
 
--- the same of a `Dump`
+-- the dump that a `Dump` asks for
 abbrev pub asked_of : Dump → Asked
 asked_of dump.Input = Input
 asked_of (dump.File path) = File path.now

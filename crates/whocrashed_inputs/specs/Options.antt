@@ -1,7 +1,7 @@
--- What an option says, by the text that clap found for it.
-use Rattle.std.specs.Prelude.{◌≡◌, ◌<◌, ◌^◌, ◌==◌, ◌&&◌, ◌||◌, ℕ, Bool, false, true, List, [], Some, None, bytes_eq}
-use Rattle.std.specs.Prelude.{codes, count_by, length, map, nat_lt, not, option_map, string_bytes, String, unwrap_or}
-use Rattle.std.specs.Prelude.{if◌then◌else◌}
+-- What the options say, by the texts that clap found for them, and which are refused.
+use Rattle.std.specs.Prelude.{◌≡◌, ◌<◌, ◌^◌, ◌==◌, ◌&&◌, ◌||◌, ℕ, Bool, false, true, List, []}
+use Rattle.std.specs.Prelude.{Some, None, bytes_eq, codes, count_by, length, map, nat_lt, not}
+use Rattle.std.specs.Prelude.{option_map, string_bytes, String, unwrap_or, if◌then◌else◌}
 use Rattle.std.specs.Global.{Global}
 use Rattle.std.specs.Str.Parse.{IsNumeral, digits_value, without_leading_plus}
 use Rattle.clap.specs.Words.{HasMatchesOf, app_of, found_of, matched_of, one_text, raw_values}
@@ -54,7 +54,8 @@ pub record AreOptions (found : Found) (options : Options) : Type 0 where
   pub listed : IsFlag found (codes "stdin-paths") options.are_listed
   pub limit : IsNumber found (codes "limit") options.limit
 
--- the options are those that words ask for, by matches that clap's contract allows a command for these
+-- the options are those that words ask for, by matches that clap's contract allows a command for
+-- these words
 pub record AreAskedFor (command : Command) (words : List (String Global)) (options : Options)
     : Type 0 where
   pub matches : ArgMatches
@@ -65,6 +66,7 @@ pub record AreAskedFor (command : Command) (words : List (String Global)) (optio
 abbrev pub has_dirs : Options → Bool
 has_dirs options = not (length options.symbols.items == 0)
 
+-- the form is the page
 abbrev is_html : Form → Bool
 is_html Html = true
 is_html _ = false
@@ -74,8 +76,8 @@ abbrev pub has_several_inputs : List (List ℕ) → Bool → Bool
 has_several_inputs paths listed =
     let inputs = count_by (bytes_eq (codes "-")) paths in nat_lt 1 inputs || inputs == 1 && listed
 
--- the arguments are refused, though each is well formed: a page of several dumps, standard input read
--- twice, or no frames, with which JSON and page would lack the registers, too
+-- the arguments are refused, though each is well formed: a page of several dumps, standard input
+-- that is read twice, or no frames, without which JSON and page would lack the registers, too
 abbrev pub is_refused : Form → ℕ → List (List ℕ) → Bool → Bool
 is_refused form frames paths listed = is_html form && nat_lt 1 (length paths)
     || has_several_inputs paths listed || frames == 0

@@ -18,14 +18,15 @@ use Rattle.crash_symbols.specs.declared.symbols.SymbolState.TheVariants.{OutOfMe
 use Rattle.whocrashed_inputs.specs.declared.symbols.NoSymbols.{NoSymbols}
 use Rattle.whocrashed_inputs.specs.declared.symbols.NoSymbols.TheVariants as reason
 
--- the state of a module that was looked for and has no symbol file: neither unwanted nor loaded
+-- the state of a module whose symbol file was looked for, and which has none: neither unwanted nor
+-- loaded
 abbrev pub state_without : NoSymbols → SymbolState
 state_without reason.Missing = Missing
 state_without reason.Corrupt = Corrupt
 state_without reason.OutOfMemory = OutOfMemory
 
--- the state of a symbol file that can't be read for an error of this kind: missing where its path names
--- no file, and damaged for any other error but want of memory
+-- the state of a symbol file that can't be read for an error of this kind: missing where its path
+-- names no file, and damaged for any other error but want of memory
 abbrev pub state_of_kind : ErrorKind → SymbolState
 state_of_kind kind.NotFound = Missing
 state_of_kind kind.NotADirectory = Missing
@@ -33,13 +34,14 @@ state_of_kind kind.InvalidFilename = Missing
 state_of_kind kind.OutOfMemory = OutOfMemory
 state_of_kind _ = Corrupt
 
--- why there is no symbol file in a text that was read: it is damaged only where the text is none
+-- why a text that was read gives no symbol file: never as missing, and as damaged only where it is
+-- no symbol file
 abbrev pub IsNoFile : Option SymbolsValue → NoSymbols → Type 0
 IsNoFile symbols reason.Missing = ⊥
 IsNoFile symbols reason.Corrupt = symbols ≡ None
 IsNoFile symbols reason.OutOfMemory = ⊤
 
--- what a symbol file says that was looked for
+-- what a symbol file says that was looked for: nothing where there is none
 abbrev pub value_read : Result (Bor SymbolFile) NoSymbols → Option SymbolsValue
 value_read found = option_map (λ file. symbols_of file.now) (result_ok found)
 
@@ -49,7 +51,8 @@ state_read (Ok file) = Loaded
 state_read (Err why) = state_without why
 
 -- what was looked for, as the file of a module: damaged if it is another's
-abbrev pub of_module : Result (Bor SymbolFile) NoSymbols → LoadedValue → Result (Bor SymbolFile) NoSymbols
+abbrev pub of_module : Result (Bor SymbolFile) NoSymbols → LoadedValue
+    → Result (Bor SymbolFile) NoSymbols
 of_module (Ok file) m = if is_of_module (symbols_of file.now) m then Ok file else Err reason.Corrupt
 of_module (Err why) m = Err why
 
@@ -57,8 +60,8 @@ of_module (Err why) m = Err why
 abbrev pub Belongs : LoadedValue → Option SymbolsValue → Type 0
 Belongs m file = IfSome file (λ s. is_of_module s m ≡ true)
 
--- what is known of the symbol files of modules is sound: each file that is known is that of the module of
--- its index, and by the states exactly those are loaded that are known
+-- what is known of the symbol files of modules is sound: each file that is known is that of the
+-- module of its index, and by the states exactly those are loaded that are known
 pub record IsSound (modules : List LoadedValue) (known : KnownSymbols) : Type 0 where
   pub belong : AllZip Belongs modules known.files
   pub loaded : map are_loaded known.states ≡ map is_some known.files

@@ -19,7 +19,7 @@ pub enum Dump<'l> {
 }
 
 /// Returns the dumps of the arguments, where `-` is standard input, and then those of a list of
-/// paths.
+/// paths, with NULs between them if it has any, else line feeds. Empty paths are left out.
 pub fn dumps_in<'l>(
     alloc: Global,
     arguments: &[&'l str],
@@ -61,7 +61,7 @@ fn by_list(path: &[u8]) -> Dump<'_>
     }
 }
 
-/// Reads dumps and the list of paths, or returns `None` if one has more bytes than are read.
+/// Reads dumps and the list of paths, or returns `None` if one has more bytes than may be read.
 pub trait ReadDumps {
     ghost use Rattle.std.specs.Global.{Vec};
     ghost use Rattle.std.specs.Prelude.{ℕ, Option, Result};
@@ -84,14 +84,14 @@ pub trait ReadDumps {
 #[derive(Clone, Copy)]
 pub struct Files<'l> {
     pub rt: &'l HostRuntime,
-    // the most bytes of a dump, and of the list of paths
+    /// The most bytes of a dump, and of the list of paths.
     pub limit: usize,
 }
 
 impl ReadDumps for Files<'_> {
     ghost use Rattle.std.specs.Prelude.{⊤};
 
-    // the contracts of files don't say which bytes a path has
+    // the contracts of files don't say which bytes a file has
     ghost reads = { λ _ _ _. ⊤ };
 
     fn read_file(&self, path: &str) -> io::Result<Option<Vec<u8>>> {

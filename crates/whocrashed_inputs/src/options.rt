@@ -26,9 +26,9 @@ malformed line (then no DUMP is read), if something of a dump is there and can't
 a name, if memory ran out, or if the output failed; 2 if the arguments are refused. What is missing of symbols
 doesn't change it. If the pipe that is written to is closed, the run ends with the status of the dumps before.";
 
-// What stands behind an option.
+// What follows an option.
 enum Takes {
-    // nothing: it is a flag, and none of these options may stand beside it
+    // nothing: it is a flag, and excludes these options
     Nothing(&'static [&'static str]),
     // a path, which the help calls so, each time that the option is given
     Paths(&'static str),
@@ -36,7 +36,7 @@ enum Takes {
     Number(&'static str, &'static str),
 }
 
-// Each option: its name, what stands behind it, and what it asks for.
+// Each option: its name, what follows it, and what it asks for.
 #[rattlefmt::skip]
 const OPTIONS: &[(&str, Takes, &str)] = &[
     ("symbols", Takes::Paths("DIR"),
@@ -102,9 +102,9 @@ pub struct Options<'w> {
     pub symbols: Vec<&'w str>,
     /// The most bytes of a symbol file.
     pub symbols_limit: usize,
-    /// Whether it is said how many dumps are done.
+    /// Whether it is said on standard error how many dumps are done.
     pub shows_progress: bool,
-    /// The arguments, where `-` is the dump on standard input.
+    /// The paths of dumps, where `-` is the dump on standard input.
     pub dumps: Vec<&'w str>,
     /// Whether the paths of further dumps stand on standard input.
     pub are_listed: bool,
@@ -143,7 +143,7 @@ fn read_by<'w>(
     }
 }
 
-// Returns why options that were read are refused, if they are.
+// Returns why options that were read are refused, or `None` if they are not.
 fn refusal(options: &Options<'_>) -> Option<(ErrorKind, &'static str)>
     ensures { is_some result ≡ is_refused options.now.form options.now.frames
         (map (λ p. p.now) options.now.dumps.items) options.now.are_listed }
@@ -163,7 +163,8 @@ fn refusal(options: &Options<'_>) -> Option<(ErrorKind, &'static str)>
     None
 }
 
-// Tells whether standard input, which is the path `-`, is asked for more than once.
+// Tells whether standard input is asked for more than once: as a dump, by `-`, or as a list of
+// paths.
 fn has_several_inputs(paths: &[&str], are_listed: bool) -> bool
     ensures { result ≡ has_several_inputs (map (λ p. p.now) paths.now) are_listed }
 {
@@ -198,7 +199,7 @@ fn options_of<'w>(alloc: Global, matches: &ArgMatches<'w>) -> Result<Options<'w>
     })
 }
 
-// Returns the form that two flags ask for, which exclude one another.
+// Returns the form that the flags `--json` and `--html` ask for, which exclude one another.
 fn form_by(json: bool, html: bool) -> Form
     ensures { result ≡ form_by json html }
 {

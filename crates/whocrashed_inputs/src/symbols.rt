@@ -5,8 +5,8 @@ ghost use Rattle.breakpad_symbols.specs.SymbolFile.{symbols_in, symbols_of};
 ghost use Rattle.crash_process.specs.Modules.{LoadedValue, loaded_of};
 ghost use Rattle.crash_symbols.specs.Modules.{is_of_module};
 ghost use Rattle.crash_symbols.specs.Symbols.{known_of};
-ghost use Rattle.whocrashed_inputs.specs.Symbols.{IsAsked, IsNoFile, IsSound, of_module, state_of_kind};
-ghost use Rattle.whocrashed_inputs.specs.Symbols.{state_read, state_without};
+ghost use Rattle.whocrashed_inputs.specs.Symbols.{IsAsked, IsNoFile, IsSound, of_module};
+ghost use Rattle.whocrashed_inputs.specs.Symbols.{state_of_kind, state_read, state_without};
 
 use crate::input::read_file;
 use crate::options::Options;
@@ -17,12 +17,13 @@ use std::alloc::{AllocError, Global};
 use std::collections::BTreeMap;
 use std::io;
 
-/// Why a module that was looked for has no symbol file.
+/// Why a module whose symbol file was looked for has none.
 #[derive(Clone, Copy)]
 pub enum NoSymbols {
     /// There is none.
     Missing,
-    /// It can't be read, has more bytes than the limit, or is that of another module.
+    /// It can't be read, has more bytes than the limit, is no symbol file, or is that of another
+    /// module.
     Corrupt,
     /// Memory ran out for it.
     OutOfMemory,
@@ -40,7 +41,7 @@ pub struct SymbolCache<'l> {
     /// The most bytes of a file.
     pub limit: usize,
     // by their paths below a directory; those that are missing are left out, and those for which
-    // memory ran out before they were read
+    // memory ran out before they were read or put here
     files: BTreeMap<String, Found>,
 }
 
@@ -81,11 +82,12 @@ impl<'l> SymbolCache<'l> {
         }
     }
 
-    // Returns the symbol file of the module of an index.
+    // Returns the symbol file of the module of an index, or why there is none.
     fn file_of(&mut self, modules: &[CrashModule], index: usize) -> Found
         ensures dirs { self.new.dirs ≡ self.old.dirs }
         ensures limit { self.new.limit ≡ self.old.limit }
-        ensures file { IfOk result (λ file. (m : LoadedValue) → slice_get (map loaded_of modules.now) index ≡ Some m
+        ensures file { IfOk result (λ file. (m : LoadedValue)
+            → slice_get (map loaded_of modules.now) index ≡ Some m
             → is_of_module (symbols_of file.now) m ≡ true) }
     {
         let Some(loaded) = modules.get(index) else {
@@ -98,8 +100,8 @@ impl<'l> SymbolCache<'l> {
         }
     }
 
-    // Returns the symbol file that has this path below a directory. One that is missing, or for which
-    // memory ran out before it was read, is looked for again the next time.
+    // Returns the symbol file that has this path below a directory. One that is missing, or for
+    // which memory ran out before it was read or kept, is looked for again the next time.
     fn file_at(&mut self, path: String) -> Found
         ensures dirs { self.new.dirs ≡ self.old.dirs }
         ensures limit { self.new.limit ≡ self.old.limit }
@@ -137,7 +139,7 @@ impl<'l> SymbolCache<'l> {
     }
 }
 
-// Reads a symbol file from a text that is kept.
+// Reads a symbol file from a text, which is kept until the run ends, as it is itself.
 fn kept(alloc: Global, text: &'static [u8]) -> Found
     ensures means { IfOk result (λ file. Some (symbols_of file.now) ≡ symbols_in text.now) }
     ensures why { IfErr result (IsNoFile (symbols_in text.now)) }
@@ -164,7 +166,7 @@ fn reason_of(kind: io::ErrorKind) -> NoSymbols
     }
 }
 
-// Returns a symbol file that was found if it is the module's.
+// Returns a symbol file that was found if it is the module's, and else that it is corrupt.
 fn of_module(found: Found, loaded: &CrashModule) -> Found
     ensures { result ≡ of_module found.entry (loaded_of loaded.now) }
 {
@@ -175,7 +177,7 @@ fn of_module(found: Found, loaded: &CrashModule) -> Found
     }
 }
 
-/// Makes the symbols of modules, none of whose files was looked for.
+/// Makes the symbols of modules before any of their files is looked for.
 #[tactic(auto, using(crate::proofs::SymbolLemmas::replicated))]
 pub fn unknown(alloc: Global, modules: &[CrashModule]) -> Result<Symbols<'static>, AllocError>
     ensures files { IfOk result (λ symbols. (known_of symbols).files

@@ -6,6 +6,6 @@ use Rattle.crash_process.proofs.directory.outside_of.Given as goal
 
 abbrev pub invariant-loop-index : goal.invariant-loop-index
 invariant-loop-index l = record {
-  counted : l.count ≡ count_by (is_lost (dump_of l.dump).file (dump_of l.dump)) (take l.index (all_entries (dump_of l.dump)));
+  counted : l.count ≡ count_by (is_lost (dump_of l.dump)) (take l.index (all_entries (dump_of l.dump)));
   bounded : l.count ≤ l.index;
 }

@@ -47,15 +47,13 @@ looked_up key [] = refl
 looked_up key (e ∷ es) = ap (cond (is_eq (slice_cmp nat_cmp key e.0.now)) (Some e.1)) (looked_up key es)
 
 by_parts : (o : Option ℕ) (b : Bool) (n : ℕ) → is_some o ≡ b → unwrap_or o 0 ≡ n → o ≡ cond b (Some n) None
-by_parts None b n is same = rw (← is) refl
-by_parts (Some m) b n is same = rw (← is, ← same) refl
+by_parts o b n is same = grind arith
 
 -- ---- the handles of descriptors
 
 next_name : (key : List ℕ) (name : Option (List ℕ)) (names : List (List ℕ)) (r : Bool) → list_any (eq_by_cmp (slice_cmp nat_cmp) key) names ≡ r
     → list_any (eq_by_cmp (slice_cmp nat_cmp) key) (cons_option name names) ≡ (option_map_or (bytes_eq key) name false || r)
-next_name key None names r is = is
-next_name key (Some name) names r is = rw (is, is_eq-slice_cmp key name) refl
+next_name key name names r is = grind (arith, is_eq-slice_cmp)
 
 any_named : (key : List ℕ) (hs : List MinidumpHandleDescriptor)
     → list_any (eq_by_cmp (slice_cmp nat_cmp) key) (filter_map (λ h. h.type_name) (map handle_of hs)) ≡ list_any (λ h. has_type key (handle_of h)) hs

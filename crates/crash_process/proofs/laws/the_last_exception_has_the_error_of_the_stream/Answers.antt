@@ -1,5 +1,5 @@
 -- The last exception is the stream, so their errors are the same.
-use Rattle.std.proofs.Common.{◌≡◌, ◌∙◌, ◌-◌, suc, List, [], ◌∷◌, Some, ap, arith, length, refl, sym}
+use Rattle.std.proofs.Common.{◌≡◌, ◌∙◌, ◌-◌, List, [], ◌∷◌, Some, ap, arith, length, refl, sym}
 use Rattle.std.specs.List.{last_or}
 use Rattle.std.specs.Option.{option_and_then}
 use Rattle.std.specs.Prelude.{Err, slice_get, unwrap_or}
@@ -15,9 +15,7 @@ by_index none x (y ∷ ys) = by_index none y ys
 -- the last item is that at the last index, where there is one
 last_is : {X : Type 0} (none : X) (xs : List X) → last_or (Some none) xs ≡ Some (unwrap_or (slice_get xs (length xs - 1)) none)
 last_is none [] = refl
-last_is none (x ∷ xs) =
-    let back : length xs ≡ suc (length xs) - 1 = omega arith in
-    by_index none x xs ∙ ap (λ n. Some (unwrap_or (slice_get (x ∷ xs) n) none)) back
+last_is none (x ∷ xs) = grind (arith, by_index none x xs)
 
 pub returns : goal.returns
 returns c = λ d.

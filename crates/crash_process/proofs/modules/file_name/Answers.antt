@@ -1,10 +1,10 @@
 -- What comes after the last separator of a path, or all of a path that has none.
-use Rattle.std.proofs.Common.{◌≡◌, ℕ, ◌+◌, ◌-◌, ◌<◌, ◌≤◌, arith, Bool, true, false, not, drop, get_or, length, List, [], ◌∷◌, None, ap, refl, sym, ◌∙◌, inl, inr}
+use Rattle.std.proofs.Common.{◌≡◌, ℕ, ◌-◌, ◌<◌, ◌≤◌, arith, Bool, true, false, not, drop, get_or, length, List, [], ◌∷◌, None, ap, refl, ◌∙◌}
 use Rattle.std.specs.List.{after_last, suffix_len}
 use Rattle.std.specs.Char.{char_set_contains}
 use Rattle.std.specs.Str.{NoCharPasses}
 use Rattle.std.specs.Str.Pattern.{RFindsBy, SplitsAroundMatch}
-use Rattle.std.proofs.lemmas.Bool.{cases_lt, ne_eqb}
+use Rattle.std.proofs.lemmas.Bool.Decides.{nat_tests}
 use Rattle.std.proofs.lemmas.List.{get_or-drop, length-drop}
 use Rattle.std.proofs.lemmas.List.Sums.{suffix_len_is}
 use Rattle.std.proofs.lemmas.Str.{NoCharPasses-byte, len_utf8_ascii}
@@ -14,18 +14,15 @@ abbrev is_separator : ℕ → Bool
 is_separator = char_set_contains (0x2f ∷ 0x5c ∷ [])
 
 far : (c : ℕ) → 128 ≤ c → is_separator c ≡ false
-far c high = rw (ne_eqb 0x2f c (λ same. omega (arith, same, high)), ne_eqb 0x5c c (λ same. omega (arith, same, high))) refl
+far c high = grind (arith, nat_tests)
 
 -- no byte is a separator where no character is one
 no_separator : (xs : List ℕ) (k : ℕ) → NoCharPasses is_separator xs → k < length xs → is_separator (get_or xs k 0) ≡ false
-no_separator xs k none within = elim (cases_lt (get_or xs k 0) 128) [
-  | inl low ↦ NoCharPasses-byte is_separator xs k none within low
-  | inr high ↦ far (get_or xs k 0) high
-]
+no_separator xs k none within = grind (arith, nat_tests, NoCharPasses-byte is_separator xs k none within)
 
 -- a separator is an ASCII character
 small : (c : ℕ) → is_separator c ≡ true → c < 128
-small c is = elim (cases_lt c 128) [ inl low ↦ low | inr high ↦ (let none : is_separator c ≡ false = far c high in cc) ]
+small c is = grind (arith, nat_tests)
 
 -- what comes after the separator that a search from the end found
 after_found : (xs front part : List ℕ) → SplitsAroundMatch (λ s r. (k : ℕ → Bool) → ((c : ℕ) → is_separator c ≡ k c) → RFindsBy k s r) xs front part
@@ -36,12 +33,9 @@ after_found xs front part (i, j, finds, at_front, at_part, le, len_front, len_pa
     let low : separator.0 < 128 = small separator.0 separator.1 in
     let one : j - 1 ≡ i = omega (arith, separator.2.ends, len_utf8_ascii separator.0 low) in
     let none : (k : ℕ) → j ≤ k → k < length xs → is_separator (get_or xs k 0) ≡ false =
-    λ k after within.
-    let inside : k - j < length (drop j xs) = omega (arith, length-drop j xs, after, within) in
-    let index : j + (k - j) ≡ k = omega (arith, after) in
-    sym (ap is_separator (get_or-drop j xs (k - j) 0 ∙ ap (λ n. get_or xs n 0) index)) ∙ no_separator (drop j xs) (k - j) found.0 inside in
+    λ k after within. grind (arith, length-drop j xs, get_or-drop j xs (k - j) 0, no_separator (drop j xs) (k - j) found.0) in
     let fixed = suffix_len_is (λ x. not (is_separator x)) xs j 0 (omega (arith, len_part)) (λ k after within. rw (none k after within) refl)
-    (λ some. rw (ap is_separator (ap (λ n. get_or xs n 0) one ∙ separator.2.byte low) ∙ separator.1) refl) in
+    (λ some. grind (arith, one, separator.1, separator.2.byte low)) in
     at_part ∙ ap (λ n. drop n xs) (omega (arith, fixed, len_part))
 
 -- all of a path that has none

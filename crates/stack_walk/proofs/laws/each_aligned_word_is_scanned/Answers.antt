@@ -1,5 +1,5 @@
 -- The words of the scan are those of the stack from the address on, and it leaves out none that has a candidate.
-use Rattle.std.proofs.Common.{◌≡◌, ◌∙◌, ℕ, ◌+◌, ◌-◌, ◌*◌, ◌/◌, ◌<◌, ◌≤◌, List, [], ◌∷◌, ◌++◌, length, true, Option, Some, None, arith, length-append, sym}
+use Rattle.std.proofs.Common.{◌≡◌, ◌∙◌, ℕ, ◌+◌, ◌*◌, ◌/◌, ◌<◌, ◌≤◌, List, [], ◌∷◌, ◌++◌, length, true, Option, Some, None, arith, length-append, sym}
 use Rattle.std.specs.Prelude.{Contains, max, ◌==◌}
 use Rattle.std.specs.Int.{div_ceil}
 use Rattle.std.specs.List.{cons_option, range_with_len}
@@ -45,7 +45,7 @@ abbrev candidates_of : StackValue → Option ℕ → List StackFrame → List St
 candidates_of s link frames =
     (cons_option (link_candidate s link frames) [] ++ word_candidates s (words_below s frames)) ++ word_candidates s (words_above s frames)
 
--- they are no more than a stack of four bytes has
+-- with different return addresses they are no more than the bytes of the stack, where that has four or more
 few_firsts : (s : StackValue) (link : Option ℕ) (frames : List StackFrame) → 4 ≤ length (stack_bytes s)
     → length (firsts (candidates_of s link frames)) ≤ length (stack_bytes s)
 few_firsts s link frames some =

@@ -1,5 +1,5 @@
 -- Callers lie on the stack, one after the other.
-use Rattle.std.proofs.Common.{◌≡◌, ◌∙◌, ◌+◌, ◌/◌, ◌≤◌, ◌∷◌, length, ap, arith, length-append}
+use Rattle.std.proofs.Common.{◌≡◌, ◌∙◌, ◌+◌, ◌/◌, ◌∷◌, length, ap, arith, length-append}
 use Rattle.std.proofs.lemmas.List.{length-take}
 use Rattle.stack_walk.specs.declared.frame.StackFrame.{StackFrame}
 use Rattle.stack_walk.specs.Frames.{caller_of, context_frame, link_in, scan, stack_bytes}

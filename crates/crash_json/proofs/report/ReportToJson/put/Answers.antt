@@ -10,7 +10,7 @@ returns c = record {
   tokens = rw (in_object _ _ _ _ c.in_ok-begin_object.ensures.ok
       (more _ _ _ _ _ c.in_ok-add_path.ensures.tokens (more _ _ _ _ _ c.in_ok-add_system.ensures.tokens
       (more _ _ _ _ _ (named _ _ _ _ _ c.in_ok-key.ensures.ok c.in_ok-put_modules.ensures.tokens)
-      (more _ _ _ _ _ c.in_ok-add_pid.ensures.tokens
+      (more _ _ _ _ _ c.in_ok-add_before_threads.ensures.tokens
       (more _ _ _ _ _ (named _ _ _ _ _ c.in_ok-key-2.ensures.ok c.in_ok-put_threads.ensures.tokens)
       (more _ _ _ _ _ (named _ _ _ _ _ c.in_ok-key-3.ensures.ok c.in_ok-put_crashing.ensures.tokens)
       (more _ _ _ _ _ c.in_ok-add_streams.ensures.tokens

@@ -4,7 +4,7 @@ use Rattle.std.specs.List.{enumerate_from, flat_map}
 use Rattle.minidump.specs.Below.Records.Record.{mac_record_of}
 use Rattle.crash_lines.specs.Lines.{line_of}
 use Rattle.crash_lines.specs.Messages.{mac_lines, record_lines}
-use Rattle.crash_lines.proofs.messages.push_records.Given as goal
+use Rattle.crash_lines.proofs.messages.push_mac.Given as goal
 
 abbrev pub invariant-loop-number : goal.invariant-loop-number
 invariant-loop-number l =
