@@ -38,11 +38,11 @@ pub use crash::{Crash, status_of};
 pub use crash_process::{
     Comments, CrashDirectory, CrashModule, CrashModules, CrashProcess, CrashSystem, HandleKind,
     LsbRelease, ModulePart, ProcessLimit, StreamEntry, UnloadedModule, UnreadableModule, file_name,
-    is_missing, limits_of, variables_of,
+    limits_of, variables_of,
 };
 pub use crash_streams::{
     Access, Contents, MessageStreams, ProcessStreams, Sender, SignalCode, SpaceStreams,
-    SystemStreams, ThreadStreams, annotation_text, regions_of,
+    SystemStreams, ThreadStreams, annotation_text, is_missing, regions_of,
 };
 pub use crash_threads::{
     AddressFacts, AddressMemory, ContextOrigin, ContextProblem, CrashCause, CrashContext,

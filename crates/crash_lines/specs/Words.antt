@@ -9,7 +9,7 @@ use Rattle.minidump.specs.declared.Error.{Error}
 use Rattle.minidump.specs.Below.Bytes.Piece.{hex}
 use Rattle.minidump.specs.Below.Format.Error.{name_of_error}
 use Rattle.minidump.specs.Below.Format.StreamType.{stream_type_of, type_name}
-use Rattle.crash_process.specs.Missing.{is_missing}
+use Rattle.crash_streams.specs.Missing.{is_missing}
 use Rattle.crash_process.specs.Modules.{LoadedValue}
 
 -- a text, or an empty one where there is none

@@ -1,6 +1,5 @@
 -- The definitions that the contracts cite.
 pub mod FileName
-pub mod Missing
 pub mod Directory
 pub mod Release
 pub mod ProcessTexts

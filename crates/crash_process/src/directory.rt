@@ -4,7 +4,6 @@ ghost use Rattle.minidump.specs.DumpValue.{dump_of};
 ghost use Rattle.crash_streams.specs.Contents.{contents_of};
 ghost use Rattle.crash_process.specs.Directory.{all_entries, directory_in, directory_of, error_of_number};
 ghost use Rattle.crash_process.specs.Directory.{outside_in, raw_error};
-ghost use Rattle.crash_process.specs.Missing.{is_missing};
 
 use crash_streams::{Contents, error_of};
 use minidump::format::{MINIDUMP_DIRECTORY, MINIDUMP_STREAM_TYPE};
@@ -37,13 +36,6 @@ pub struct StreamEntry {
     /// The error if the stream can't be read; for a type that is never read, the error if its bytes
     /// can't be.
     pub error: Option<Error>,
-}
-
-/// Tells whether an error is that of a stream that is missing, and not of one that can't be read.
-pub fn is_missing(error: Error) -> bool
-    ensures { result ≡ is_missing error }
-{
-    error == Error::StreamNotFound
 }
 
 /// Returns what the header and the directory of a dump say.

@@ -30,7 +30,7 @@ mod process;
 mod process_texts;
 mod unreadable_modules;
 
-pub use directory::{CrashDirectory, StreamEntry, directory_of, is_missing};
+pub use directory::{CrashDirectory, StreamEntry, directory_of};
 pub use handle_kinds::HandleKind;
 pub use linux::{LsbRelease, ProcessLimit, limits_of, variables_of};
 pub use modules::{CrashModule, CrashModules, UnloadedModule, file_name, modules_of};

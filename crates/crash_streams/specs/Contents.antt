@@ -1,5 +1,5 @@
 -- The contents of a minidump: the value of each stream, or the error for which there is none.
-use Rattle.std.specs.Prelude.{ℕ, List, [], length, map, Option, Result, Ok, Err, unwrap_or}
+use Rattle.std.specs.Prelude.{ℕ, ◌||◌, Bool, false, not, List, [], length, map, Option, Result, Ok, Err, unwrap_or}
 use Rattle.std.specs.Option.{option_map, option_map_or}
 use Rattle.std.specs.Result.{result_err, result_ok}
 use Rattle.minidump.specs.declared.Error.{Error}
@@ -44,6 +44,7 @@ use Rattle.crash_streams.specs.declared.contents.SpaceStreams.{SpaceStreams}
 use Rattle.crash_streams.specs.declared.contents.MessageStreams.{MessageStreams}
 use Rattle.crash_streams.specs.declared.contents.ProcessStreams.{ProcessStreams}
 use Rattle.crash_streams.specs.declared.contents.Contents.{Contents}
+use Rattle.crash_streams.specs.Missing.{is_missing}
 
 -- the streams of the system: each its value, or the error for which there is none
 pub record SystemStreamValues : Type 0 where
@@ -232,3 +233,15 @@ contents_of c = record {
   messages = message_streams_of c.messages;
   process = process_streams_of c.process;
 }
+
+-- ---- what the streams say of their writer
+
+-- a stream is in the dump, whether it can be read or not
+abbrev pub is_there : {A : Type 0} → Result A Error → Bool
+is_there stream = not (option_map_or is_missing (result_err stream) false)
+
+-- the writer of a dump is known to have the `si_code` of each signal of Linux: it is Crashpad, or that of Mozilla,
+-- by the streams that they alone write
+abbrev pub has_signal_codes : ContentsValue → Bool
+has_signal_codes c = is_there c.messages.crashpad
+    || (is_there c.messages.soft_errors || is_there c.process.limits)

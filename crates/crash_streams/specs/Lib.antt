@@ -1,3 +1,4 @@
 -- The definitions that the contracts cite.
+pub mod Missing
 pub mod Contents
 pub mod Records

@@ -137,34 +137,41 @@ sender_by code width r =
 abbrev pub is_process : ℕ → Bool
 is_process n = nat_le 1 n && nat_lt n (2 ^ 22)
 
--- a record can be that of an access near 0, as through a null pointer: SIGBUS or SIGSEGV, at an address
--- that would name a process of root. The address of another fault is that of its instruction
+-- a record of Linux or Android can be that of an access near 0, as through a null pointer: SIGBUS or SIGSEGV, at
+-- an address that would name a process of root. The address of another fault is that of its instruction
 abbrev is_low_access : MINIDUMP_EXCEPTION → Bool
 is_low_access r = is_access Linux r.exception_code && is_process r.exception_address
 
--- a process sent a signal. SI_USER is 0, as of a writer that has no `si_code`: then the sender must
--- be one that can be a process, and the record not one of an access near 0
-abbrev pub is_sent : SignalCode → MINIDUMP_EXCEPTION → Option ℕ → Bool
-is_sent User r process = option_map_or is_process process false && not (is_low_access r)
-is_sent _ r process = true
+-- Linux numbers its processes below 2^22: 0 is one outside of the receiver's namespace
+abbrev pub may_be_sender : ℕ → Bool
+may_be_sender n = nat_lt n (2 ^ 22)
+
+-- a process sent a signal. SI_USER is 0. Where the writer of a dump is known to have the `si_code` of each signal, it
+-- counts, but not with the number of no process: old kernels of ARM raise faults with 0. Elsewhere it may stand for
+-- none: then the sender must be one that can be a process, and the record not one of an access near 0
+abbrev pub is_sent : Bool → SignalCode → MINIDUMP_EXCEPTION → Option ℕ → Bool
+is_sent true User r process = option_map_or may_be_sender process true
+is_sent false User r process = option_map_or is_process process false && not (is_low_access r)
+is_sent has_codes _ r process = true
 
 -- the sender, where there is one: the record's code is the signal, which Linux numbers from 1 to 64, and its flags
 -- are the `si_code`
-abbrev sender_with : PointerWidth → MINIDUMP_EXCEPTION → Option Sender
-sender_with width r = option_and_then (λ code. let s = sender_by code width r in
-    if (nat_le 1 r.exception_code && nat_le r.exception_code 64) && is_sent code r s.process
+abbrev sender_with : Bool → PointerWidth → MINIDUMP_EXCEPTION → Option Sender
+sender_with has_codes width r = option_and_then (λ code. let s = sender_by code width r in
+    if (nat_le 1 r.exception_code && nat_le r.exception_code 64)
+    && is_sent has_codes code r s.process
     then Some s else None)
     (signal_code r.exception_flags)
 
 -- the process that sent the signal of a record on an operating system
-abbrev sender_on : Os → Cpu → MINIDUMP_EXCEPTION → Option Sender
-sender_on Linux cpu r = sender_with (width_of cpu) r
-sender_on Android cpu r = sender_with (width_of cpu) r
-sender_on _ cpu r = None
+abbrev sender_on : Bool → Os → Cpu → MINIDUMP_EXCEPTION → Option Sender
+sender_on has_codes Linux cpu r = sender_with has_codes (width_of cpu) r
+sender_on has_codes Android cpu r = sender_with has_codes (width_of cpu) r
+sender_on has_codes _ cpu r = None
 
 -- the same where the system is known
-abbrev pub sender_in : Option System → MINIDUMP_EXCEPTION → Option Sender
-sender_in system r = option_and_then (λ s. sender_on s.os s.cpu r) system
+abbrev pub sender_in : Bool → Option System → MINIDUMP_EXCEPTION → Option Sender
+sender_in has_codes system r = option_and_then (λ s. sender_on has_codes s.os s.cpu r) system
 
 -- ---- an address that isn't known
 
@@ -205,13 +212,21 @@ lacks_address MacOs cpu r = has_no_protection_address r
 lacks_address Windows cpu r = has_no_access_address cpu r
 lacks_address _ cpu r = false
 
--- the flags of an access don't say why it failed: they are LLDB's mark or, but on Windows, 0, which LLDB writes,
+-- a code of Linux is that of no fault, so that nothing in its record is an `si_addr`: of another signal, or of a dump
+-- without a crash
+abbrev pub is_no_fault : Os → ℕ → Bool
+is_no_fault Linux signal = not (is_fault signal)
+is_no_fault Android signal = not (is_fault signal)
+is_no_fault _ signal = false
+
+-- the flags of a record don't say why it was raised: they are LLDB's mark or, but on Windows, 0, which LLDB writes,
 -- too
 abbrev says_no_cause : Os → MINIDUMP_EXCEPTION → Bool
 says_no_cause Windows r = has_lldb_flag r
 says_no_cause _ r = r.exception_flags == 0 || has_lldb_flag r
 
--- the record of an access whose address may be that of the instruction: LLDB writes the program counter there,
--- and has such flags
+-- the record of an access, or of such a signal, whose address may be that of the instruction: LLDB writes the
+-- program counter there, and has such flags
 abbrev pub may_be_instruction : Os → MINIDUMP_EXCEPTION → Bool
-may_be_instruction os r = is_access os r.exception_code && says_no_cause os r
+may_be_instruction os r =
+    (is_access os r.exception_code || is_no_fault os r.exception_code) && says_no_cause os r

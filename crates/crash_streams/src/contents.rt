@@ -8,8 +8,10 @@ ghost use Rattle.minidump.specs.Below.Records.Annotations.{annotation_of};
 ghost use Rattle.minidump.specs.Below.Records.CrashpadText.{annotation_text};
 ghost use Rattle.minidump.specs.DumpValue.{dump_of};
 ghost use Rattle.minidump.specs.Promise.{unloaded_module_list_stream};
-ghost use Rattle.crash_streams.specs.Contents.{contents_in, contents_of, message_streams_of, process_streams_of};
-ghost use Rattle.crash_streams.specs.Contents.{space_streams_of, system_streams_of, thread_streams_of};
+ghost use Rattle.crash_streams.specs.Contents.{contents_in, contents_of, has_signal_codes, is_there};
+ghost use Rattle.crash_streams.specs.Contents.{message_streams_of, process_streams_of, space_streams_of};
+ghost use Rattle.crash_streams.specs.Contents.{system_streams_of, thread_streams_of};
+ghost use Rattle.crash_streams.specs.Missing.{is_missing};
 
 use minidump::{
     Error, Minidump, MinidumpAnnotation, MinidumpAssertion, MinidumpBreakpadInfo,
@@ -321,4 +323,30 @@ pub fn unloaded_entries(
         ≡ unwrap_or (result_ok (map_ok unloaded_module_list_stream.value list.now)) [] }
 {
     list.as_ref().map_or(&[], |list| list.iter().as_slice())
+}
+
+// ---- what the streams say of their writer
+
+/// Tells whether the writer of the dump is known to have the `si_code` of each signal of Linux: it is
+/// Crashpad, or that of Mozilla, by the streams that they alone write.
+pub fn has_signal_codes(contents: &Contents<'_>) -> bool
+    ensures { result ≡ has_signal_codes (contents_of contents.now) }
+{
+    is_there(&contents.messages.crashpad)
+        || is_there(&contents.messages.soft_errors)
+        || is_there(&contents.process.limits)
+}
+
+// Tells whether a stream is in the dump, whether it can be read or not.
+fn is_there<'a, S: MinidumpStream<'a>>(stream: &Result<S, Error>) -> bool
+    ensures { result ≡ is_there (map_ok S.spec.value stream.now) }
+{
+    !error_of(stream).is_some_and(|error| is_missing(error))
+}
+
+/// Tells whether an error is that of a stream that is missing, and not of one that can't be read.
+pub fn is_missing(error: Error) -> bool
+    ensures { result ≡ is_missing error }
+{
+    error == Error::StreamNotFound
 }

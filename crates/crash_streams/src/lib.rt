@@ -6,6 +6,7 @@
 //!   known of its regions.
 //! - [`description_of`], [`access_of`] and [`sender_of`] say what the record of an exception holds
 //!   beside its code, [`lacks_address`] and [`may_be_instruction`] what its address is.
+//!   [`has_signal_codes`] says whether the flags of such a record are known to be a signal's code.
 //!
 //! `crash_process` says what the streams tell of the process and its modules, `crash_threads` of its
 //! threads and the crash.
@@ -28,7 +29,8 @@ mod texts;
 
 pub use contents::{
     Contents, MessageStreams, ProcessStreams, SpaceStreams, SystemStreams, ThreadStreams,
-    annotation_text, error_of, read_contents, regions_of, unloaded_entries,
+    annotation_text, error_of, has_signal_codes, is_missing, read_contents, regions_of,
+    unloaded_entries,
 };
 pub use records::{
     Access, Sender, SignalCode, access_of, description_of, lacks_address, may_be_instruction,

@@ -2,8 +2,9 @@
 ghost use Rattle.std.specs.Prelude.{◌≡◌, ◌%◌, ◌^◌, IfOk, string_bytes};
 ghost use Rattle.std.specs.Option.{option_copied, option_map};
 ghost use Rattle.minidump.specs.Promise.{system_info_stream};
-ghost use Rattle.crash_streams.specs.Records.{access_in, description_in, is_access, is_process, is_protection, is_sent};
-ghost use Rattle.crash_streams.specs.Records.{lacks_address, may_be_instruction, parameters_in, sender_by};
+ghost use Rattle.crash_streams.specs.Records.{access_in, description_in, is_access, is_no_fault, is_process};
+ghost use Rattle.crash_streams.specs.Records.{is_protection, is_sent, lacks_address, may_be_instruction};
+ghost use Rattle.crash_streams.specs.Records.{parameters_in, sender_by};
 ghost use Rattle.crash_streams.specs.Records.{sender_in, signal_code, signal_code_name, user_at};
 
 use crate::texts::before_nul;
@@ -91,8 +92,8 @@ pub struct Sender {
     /// The `si_code`, which is the flags of the record.
     pub code: SignalCode,
     /// The id of the process, `si_pid`: 0 if it is outside of the receiver's namespace, and `None`
-    /// where the record has no bytes of it. By SI_USER it is neither, since a record that has no
-    /// `si_code` has 0 there, too.
+    /// where the record has no bytes of it. By SI_USER it is neither, but where the writer is known
+    /// to have the `si_code` of each signal: any other record may have 0 for want of one.
     pub process: Option<u32>,
     /// The id of its user, `si_uid`, or `None` where the record has no bytes of it, as in an address of
     /// 32 bits.
@@ -199,19 +200,33 @@ pub fn lacks_address(os: Os, cpu: Cpu, raw: &MINIDUMP_EXCEPTION) -> bool
     }
 }
 
-/// Tells whether the address of an access may be that of the instruction: whether the flags don't say
-/// why the access failed.
+/// Tells whether the address of an access, or of a code of Linux that is no fault's, may be that of the
+/// instruction: whether the flags don't say why it was raised.
 pub fn may_be_instruction(os: Os, raw: &MINIDUMP_EXCEPTION) -> bool
     ensures { result ≡ may_be_instruction os raw.now }
 {
     let flags = raw.exception_flags;
-    is_access(os, raw.exception_code)
+    (is_access(os, raw.exception_code) || is_no_fault(os, raw.exception_code))
         && (flags == LLDB_FLAG || flags == 0 && !matches!(os, Os::Windows))
 }
 
-/// Returns the process that sent the signal, if one did.
-pub fn sender_of(system: Option<&MinidumpSystemInfo>, raw: &MINIDUMP_EXCEPTION) -> Option<Sender>
-    ensures { result ≡ sender_in
+// Tells whether a code of Linux is that of no fault: of another signal, or of a dump without a crash.
+fn is_no_fault(os: Os, signal: u32) -> bool
+    ensures { result ≡ is_no_fault os signal }
+{
+    matches!(os, Os::Linux | Os::Android)
+        && !matches!(signal, SIGILL | SIGTRAP | SIGBUS | SIGFPE | SIGSEGV)
+}
+
+/// Returns the process that sent the signal, if one did. `has_codes` says whether the writer of the
+/// dump is known to have the `si_code` of each signal, as
+/// [`has_signal_codes`](crate::has_signal_codes) tells.
+pub fn sender_of(
+    has_codes: bool,
+    system: Option<&MinidumpSystemInfo>,
+    raw: &MINIDUMP_EXCEPTION,
+) -> Option<Sender>
+    ensures { result ≡ sender_in has_codes
         (option_map system_info_stream.value (option_copied system.entry)) raw.now }
 {
     let system = system?;
@@ -219,7 +234,7 @@ pub fn sender_of(system: Option<&MinidumpSystemInfo>, raw: &MINIDUMP_EXCEPTION) 
     match (system.os, signal_code(raw.exception_flags)) {
         (Os::Linux | Os::Android, Some(code)) if is_signal => {
             let sender = sender_by(code, system.cpu.pointer_width(), raw);
-            is_sent(code, raw, sender.process).then_some(sender)
+            is_sent(has_codes, code, raw, sender.process).then_some(sender)
         }
         _ => None,
     }
@@ -238,15 +253,22 @@ fn signal_code(si_code: u32) -> Option<SignalCode>
 }
 
 // Tells whether a process sent the signal of a record. By SI_USER it did only if the number can be
-// that of a process, and the record can't be that of an access near 0.
-fn is_sent(code: SignalCode, raw: &MINIDUMP_EXCEPTION, process: Option<u32>) -> bool
-    ensures { result ≡ is_sent code raw.now process }
+// that of a process, and, where the writer may have no codes, the record can't be that of an access
+// near 0.
+fn is_sent(
+    has_codes: bool,
+    code: SignalCode,
+    raw: &MINIDUMP_EXCEPTION,
+    process: Option<u32>,
+) -> bool
+    ensures { result ≡ is_sent has_codes code raw.now process }
 {
     let is_low_access = is_access(Os::Linux, raw.exception_code)
         && is_process(raw.exception_address);
     match (code, process) {
+        (SignalCode::User, Some(number)) if has_codes => number < 0x40_0000,
         (SignalCode::User, Some(number)) => is_process(number as u64) && !is_low_access,
-        (SignalCode::User, None) => false,
+        (SignalCode::User, None) => has_codes,
         (SignalCode::Queue | SignalCode::Tkill, _) => true,
     }
 }

@@ -124,7 +124,7 @@ end_text (Walk NoFramePointer) = codes "no frame pointer"
 end_text (Walk ZeroFramePointer) = codes "frame pointer of 0"
 end_text (Walk BelowStackPointer) = codes "frame pointer below the stack pointer"
 end_text (Walk NoRecord) = codes "no frame record at the frame pointer"
-end_text (Walk NoCode) = codes "return address in no module"
+end_text (Walk NoCode) = codes "no code at the return address"
 end_text NoReturnRule = codes "no rule for the return address"
 end_text ZeroReturnAddress = codes "return address of 0"
 

@@ -452,7 +452,7 @@ fn end_text(end: SymbolWalkEnd) -> &'static str
         SymbolWalkEnd::Walk(WalkEnd::ZeroFramePointer) => "frame pointer of 0",
         SymbolWalkEnd::Walk(WalkEnd::BelowStackPointer) => "frame pointer below the stack pointer",
         SymbolWalkEnd::Walk(WalkEnd::NoRecord) => "no frame record at the frame pointer",
-        SymbolWalkEnd::Walk(WalkEnd::NoCode) => "return address in no module",
+        SymbolWalkEnd::Walk(WalkEnd::NoCode) => "no code at the return address",
         SymbolWalkEnd::NoReturnRule => "no rule for the return address",
         SymbolWalkEnd::ZeroReturnAddress => "return address of 0",
     }

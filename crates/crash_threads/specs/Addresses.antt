@@ -15,7 +15,7 @@ use Rattle.minidump.specs.Below.MemoryLists.UnifiedInfo.{region_is_readable, reg
 use Rattle.minidump.specs.Below.Modules.UnloadedModule.{UnloadedValue, range_of_unloaded}
 use Rattle.minidump.specs.Below.System.System.{System}
 use Rattle.minidump.specs.Thread.{Thread, stack_of}
-use Rattle.stack_walk.specs.Lookups.{is_code, module_place}
+use Rattle.stack_walk.specs.Lookups.{module_place}
 use Rattle.crash_threads.specs.declared.addresses.AddressFacts.{AddressFacts}
 use Rattle.crash_threads.specs.declared.addresses.AddressMemory.{AddressMemory}
 use Rattle.crash_threads.specs.declared.addresses.AddressMemory.TheVariants.{Committed, Free, Reserved}
@@ -121,11 +121,6 @@ rights_of (Committed rights) = Some rights
 -- memory may be run as code
 abbrev pub is_executable : AddressMemory → Bool
 is_executable m = option_map_or (λ r. r.is_executable) (rights_of m) false
-
--- code may be at an address: a module contains it, or committed memory that is known to be executable
-abbrev pub has_code : ContentsValue → ℕ → Bool
-has_code c address = is_code c.space.modules address
-    || option_map_or is_executable (memory_at c address) false
 
 -- ---- all of it
 

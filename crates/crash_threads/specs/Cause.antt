@@ -4,21 +4,24 @@ use Rattle.std.specs.Prelude.{ℕ, ◌==◌, ◌||◌, ◌&&◌, Bool, false, Li
 use Rattle.std.specs.Prelude.{if◌then◌else◌, string_bytes}
 use Rattle.std.specs.Option.{option_and_then, option_map, option_map_or}
 use Rattle.minidump.specs.declared.Error.{Error}
+use Rattle.minidump.specs.declared.format.MINIDUMP_EXCEPTION.{MINIDUMP_EXCEPTION}
 use Rattle.minidump.specs.Below.Contexts.Context.{map_ok}
+use Rattle.minidump.specs.Below.MemoryLists.UnifiedInfo.{info_regions}
 use Rattle.minidump.specs.Below.Reasons.Names.{Lists}
 use Rattle.minidump.specs.Below.Reasons.Reason.{crash_reason}
 use Rattle.minidump.specs.Below.Reasons.ReasonText.{reason_text}
 use Rattle.minidump.specs.Below.System.System.{System}
 use Rattle.minidump.specs.Exception.{Exception, crash_address}
 use Rattle.stack_walk.specs.Frames.{instruction_pointer_in}
+use Rattle.stack_walk.specs.Lookups.{has_code}
 use Rattle.crash_threads.specs.declared.addresses.AddressFacts.{AddressFacts}
 use Rattle.crash_threads.specs.declared.cause.CrashCause.{CrashCause}
 use Rattle.crash_threads.specs.declared.cause.CrashException.{CrashException}
 use Rattle.crash_threads.specs.declared.contexts.ContextProblem.{ContextProblem}
 use Rattle.crash_streams.specs.declared.records.Access.{Access}
 use Rattle.crash_streams.specs.declared.records.Sender.{Sender}
-use Rattle.crash_threads.specs.Addresses.{facts_of, has_code}
-use Rattle.crash_streams.specs.Contents.{ContentsValue}
+use Rattle.crash_threads.specs.Addresses.{facts_of}
+use Rattle.crash_streams.specs.Contents.{ContentsValue, has_signal_codes}
 use Rattle.crash_threads.specs.Contexts.{any_context, named_bytes, problem_in, system_of}
 use Rattle.crash_threads.specs.Counting.{counted, counting}
 use Rattle.crash_streams.specs.Records.{access_in, description_in, lacks_address, may_be_instruction}
@@ -86,13 +89,14 @@ is_instruction s e address = option_map_or (λ f. instruction_pointer_in f.raw =
     (any_context (Some s) e.order e.context) false
 
 -- the record of an exception on a system has no address of a crash: none at all, or one that says only where the
--- thread stood, as the instruction pointer of the exception's own context, at which code may be. Where none can be,
+-- thread stood, as the instruction pointer of the exception's own context, where code is known to be. Where none is,
 -- as at 0, the thread jumped to it, and that was the access
 abbrev has_no_address : ContentsValue → System → Exception → Bool
 has_no_address c s e =
     let address = crash_address s.os s.cpu e.raw.exception_record in
     lacks_address s.os s.cpu e.raw.exception_record || (may_be_instruction s.os e.raw.exception_record
-    && (is_instruction s e address && has_code c address))
+    && (is_instruction s e address
+    && has_code c.space.modules (info_regions c.space.infos) address))
 
 -- the address of a crash where the system is known, unless a process sent the signal, or the record has none
 abbrev pub address_unless : ContentsValue → Option Sender → Option System → Exception → Option ℕ
@@ -105,6 +109,10 @@ abbrev pub reason_in : Lists → Option System → Exception → Option (List �
 reason_in names system e = option_map
     (λ s. reason_text names (crash_reason names s.os s.cpu e.raw.exception_record)) system
 
+-- the process that sent the signal of a record of a dump with these contents
+abbrev pub sender_of_record : ContentsValue → MINIDUMP_EXCEPTION → Option Sender
+sender_of_record c r = sender_in (has_signal_codes c) (system_of c) r
+
 -- an exception of a dump with these contents
 abbrev pub exception_in : Lists → ContentsValue → Exception → ExceptionValue
 exception_in names c e = record {
@@ -116,8 +124,8 @@ exception_in names c e = record {
   parameters = parameters_in e.raw.exception_record;
   description = description_in e.raw.exception_record;
   access = access_in (system_of c) e.raw.exception_record;
-  sender = sender_in (system_of c) e.raw.exception_record;
-  address = address_unless c (sender_in (system_of c) e.raw.exception_record) (system_of c) e;
+  sender = sender_of_record c e.raw.exception_record;
+  address = address_unless c (sender_of_record c e.raw.exception_record) (system_of c) e;
   reason = reason_in names (system_of c) e;
   context_problem = problem_in (system_of c) e.order (named_bytes e.raw.thread_context e.context);
 }

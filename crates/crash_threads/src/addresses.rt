@@ -3,7 +3,7 @@ ghost use Rattle.std.specs.Prelude.{◌≡◌, [], unwrap_or};
 ghost use Rattle.std.specs.Result.{result_ok};
 ghost use Rattle.minidump.specs.Below.Contexts.Context.{map_ok};
 ghost use Rattle.minidump.specs.Promise.{thread_list_stream, unloaded_module_list_stream};
-ghost use Rattle.crash_threads.specs.Addresses.{facts_of, has_code, is_canonical, is_executable};
+ghost use Rattle.crash_threads.specs.Addresses.{facts_of, is_canonical, is_executable};
 ghost use Rattle.crash_threads.specs.Addresses.{is_placed, memory_at, memory_in, rights_of, stack_above};
 ghost use Rattle.crash_threads.specs.Addresses.{stack_at, unloaded_at};
 ghost use Rattle.crash_streams.specs.Contents.{contents_of};
@@ -17,7 +17,7 @@ use crash_streams::{Contents, unloaded_entries};
 use minidump::format::{MemoryProtection, MemoryState};
 use minidump::system_info::Cpu;
 use minidump::{Error, MinidumpThreadList, MinidumpUnloadedModuleList, Region, UnifiedMemoryInfo};
-use stack_walk::{is_code, module_place};
+use stack_walk::module_place;
 
 /// What is known of an address.
 #[derive(Clone, Copy)]
@@ -171,15 +171,6 @@ fn stack_above(threads: &Result<MinidumpThreadList<'_>, Error>, address: u64) ->
 }
 
 // ---- memory
-
-// Tells whether code may be at an address: whether a module contains it, or committed memory that is
-// known to be executable.
-pub(crate) fn has_code(contents: &Contents<'_>, address: u64) -> bool
-    ensures { result ≡ has_code (contents_of contents.now) address }
-{
-    is_code(&contents.space.modules, address)
-        || memory_at(contents, address).is_some_and(|memory| memory.is_executable())
-}
 
 // Returns the state of the memory that contains an address, if it is known.
 fn memory_at(contents: &Contents<'_>, address: u64) -> Option<AddressMemory>

@@ -7,15 +7,16 @@ ghost use Rattle.crash_threads.specs.Cause.{exception_in, exception_of, is_instr
 ghost use Rattle.crash_streams.specs.Contents.{contents_of};
 ghost use Rattle.crash_threads.specs.Counting.{counted, counting, counting_exception};
 
-use crate::addresses::{AddressFacts, facts_of, has_code};
+use crate::addresses::{AddressFacts, facts_of};
 use crate::contexts::{ContextProblem, context_on, named_bytes, problem_in};
 use crate::last::last_index;
 use crash_streams::{
-    Access, Contents, Sender, access_of, description_of, lacks_address, may_be_instruction,
-    parameters_of, sender_of,
+    Access, Contents, Sender, access_of, description_of, has_signal_codes, lacks_address,
+    may_be_instruction, parameters_of, sender_of,
 };
 use minidump::{CodeNames, Error, MinidumpContext, MinidumpException, MinidumpSystemInfo};
 use minidump_bytes::as_text;
+use stack_walk::has_code;
 use std::alloc::Global;
 
 /// Where and why a process crashed.
@@ -80,7 +81,9 @@ pub struct CrashException {
     /// SI_USER is 0, as the flags are where there is no `si_code`. By SI_USER a signal therefore
     /// has no sender if the id of the process isn't from 1 to 0x3fffff, as of one outside of the
     /// receiver's namespace, or if the signal is SIGSEGV or SIGBUS and the address of the record is
-    /// in that range: that is taken for the address of an access.
+    /// in that range: that is taken for the address of an access. Where the writer is known to have
+    /// the `si_code` of each signal ([`has_signal_codes`]), it has none only if that id is above
+    /// 0x3fffff.
     pub sender: Option<Sender>,
     /// The address of the crash: the one that was accessed where the record has it, else that of
     /// the record, in as many bits as a pointer has. `None` without system information, for a signal
@@ -90,12 +93,13 @@ pub struct CrashException {
     /// EXC_BAD_ACCESS with EXC_I386_GPFLT, which has no address either if it is 0. On Windows it is an
     /// access violation that reads the last address, which has none on x86 and x86-64.
     ///
-    /// `None` also for an access whose flags don't say why it failed, if its address is the instruction
-    /// pointer of its own context and code may be there, by a module or by executable memory: LLDB
-    /// writes that address, whatever was accessed. Such flags are LLDB's and, but on Windows, 0; the
-    /// accesses are SIGSEGV and SIGBUS, EXC_BAD_ACCESS of macOS and iOS, and the access violations and
-    /// in-page errors of Windows. On Windows LLDB's flags also say that a text stands in the place of an
-    /// address in the parameters.
+    /// `None` also for an access, or on Linux and Android a code that is no fault's, as SIGABRT, whose
+    /// flags don't say why it was raised, if its address is the instruction pointer of its own context
+    /// and code is known to be there, in a module or in memory that may be run: LLDB writes that
+    /// address, whatever was accessed. Such flags are LLDB's and, but on Windows, 0; the accesses are
+    /// SIGSEGV and SIGBUS, EXC_BAD_ACCESS of macOS and iOS, and the access violations and in-page errors
+    /// of Windows. On Windows LLDB's flags also say that a text stands in the place of an address in the
+    /// parameters.
     pub address: Option<u64>,
     /// The reason of the crash in words, or `None` without system information.
     pub reason: Option<String>,
@@ -146,7 +150,7 @@ fn exception_of(
     };
     let system = contents.system.system.as_ref().ok();
     let record = &exception.raw.exception_record;
-    let sender = sender_of(system, record);
+    let sender = sender_of(has_signal_codes(contents), system, record);
     let bytes = named_bytes(&exception.raw.thread_context, exception.context_bytes());
     Ok(Ok(CrashException {
         thread: exception.thread_id,
@@ -184,7 +188,7 @@ fn address_unless(
     let has_no_address = lacks_address(system.os, system.cpu, record)
         || may_be_instruction(system.os, record)
             && is_instruction(exception, system, address)
-            && has_code(contents, address);
+            && has_code(&contents.space.modules, &contents.space.infos, address);
     if has_no_address { None } else { Some(address) }
 }
 

@@ -183,7 +183,8 @@ enum minidump_end {
     MINIDUMP_END_BELOW_STACK_POINTER = 5, /* it lies below the stack pointer */
     MINIDUMP_END_NO_RECORD = 6,           /* the stack doesn't hold both words at it, or they end at 2^64 or beyond, on 32 bits
                                            * at 2^32 or beyond */
-    MINIDUMP_END_NO_CODE = 7              /* the return address is 0, or no module contains the address below it */
+    MINIDUMP_END_NO_CODE = 7              /* the return address is 0, or neither a module nor memory that may be run contains
+                                           * the address below it */
 };
 
 /* Where a text lies in the buffer of texts: how many bytes stand before it, and how many it has. That of an absent text has

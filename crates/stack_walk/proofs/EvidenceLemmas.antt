@@ -16,7 +16,7 @@ use Rattle.stack_walk.specs.Addresses.{address_after, unmarked, unsigned}
 use Rattle.stack_walk.specs.Evidence.{HasEvidence, IsLinkCandidate, IsShown, evidence_address}
 use Rattle.stack_walk.specs.Frames.{AreCallers, AreFrames, StackValue, caller_at, caller_of, context_frame, lacks, link_candidate, link_in}
 use Rattle.stack_walk.specs.Frames.{may_hold_call, pointer_at, record_of, return_at, scan, word_candidate, word_candidates, words_above, words_below}
-use Rattle.stack_walk.specs.Lookups.{call_site, is_code, is_past_headers}
+use Rattle.stack_walk.specs.Lookups.{call_site, has_code, is_past_headers}
 use Rattle.stack_walk.proofs.FoundLemmas.{All-firsts, all_given, one_more}
 
 -- ---- the stack
@@ -34,7 +34,7 @@ by_record width word back site code f g e = grind (arith, nat_tests)
 
 of_caller : (s : StackValue) (f g : StackFrame) → caller_of s f ≡ Some g → HasEvidence s g
 unfolding caller_at
-of_caller s f g e = by_record s.width (pointer_at s) (return_at s) (call_site s.cpu) (is_code s.modules) f g e
+of_caller s f g e = by_record s.width (pointer_at s) (return_at s) (call_site s.cpu) (has_code s.modules s.infos) f g e
 
 -- and so has a candidate
 by_word : (width : PointerWidth) (back site : ℕ → Option ℕ) (may : ℕ → Bool) (number : ℕ) (f : StackFrame)
@@ -48,7 +48,7 @@ by_word width back site may number f e = grind (arith, nat_tests)
 
 of_candidate : (s : StackValue) (number : ℕ) (f : StackFrame) → word_candidate s number ≡ Some f → HasEvidence s f
 unfolding word_candidate
-of_candidate s number f e = by_word s.width (return_at s) (call_site s.cpu) (λ call. is_past_headers s.modules call && may_hold_call s call) number f e
+of_candidate s number f e = by_word s.width (return_at s) (call_site s.cpu) (λ call. is_past_headers s.modules s.infos call && may_hold_call s call) number f e
 
 -- a frame of the link register has no evidence in the stack
 none_of_link : (s : StackValue) (f : StackFrame) → HasEvidence s f → f.trust ≡ Link → ⊥
@@ -64,7 +64,7 @@ is_linked s link frames f e =
     option_and_then_some _ (call_site s.cpu (unsigned s.code_bits word)) f of_first (λ call is_call of_call.
     let parts = cond_some _ _ f of_call in
     let is = and_parts (lacks frames (unsigned s.code_bits word)) _ parts.0 in
-    let may = and_parts (is_code s.modules call) _ is.1 in
+    let may = and_parts (has_code s.modules s.infos call) _ is.1 in
     subst (IsLinkCandidate s link frames) parts.1 (record {
       first = first;
       call = call;
@@ -74,7 +74,7 @@ is_linked s link frames f e =
       frame_pointer = refl;
       trust = refl;
       is_call = is_call;
-      in_module = may.0;
+      at_code = may.0;
       may_hold = may.1;
       is_other = λ caller second. let other = rw second at is.0 in (λ rules. grind (arith, other), λ same. grind (arith, nat_tests, other));
     }))))

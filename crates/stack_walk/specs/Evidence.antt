@@ -11,7 +11,7 @@ use Rattle.stack_walk.specs.declared.frame.FrameTrust.TheVariants.{Cfi, FramePoi
 use Rattle.stack_walk.specs.declared.frame.StackFrame.{StackFrame}
 use Rattle.stack_walk.specs.Addresses.{unsigned}
 use Rattle.stack_walk.specs.Frames.{StackValue, link_in, may_hold_call, return_at}
-use Rattle.stack_walk.specs.Lookups.{call_site, is_code}
+use Rattle.stack_walk.specs.Lookups.{call_site, has_code}
 
 -- the address of the word below the stack pointer of a caller or a candidate: none of a context,
 -- nor of a frame by rules, whose return address may stand elsewhere or in a register, nor of that
@@ -46,8 +46,8 @@ IsShown s c f = HasEvidence s f ⊎ IsFromLink s c f
 
 -- a frame is the candidate of the link register of a walk with these frames: its return address is
 -- the register, without the bits that may sign it; its pointers are those of the first frame; a
--- call may return to it, whose last byte lies in a kept module and may stand there; and the first
--- caller, if there is one, isn't found by rules and has another return address
+-- call may return to it, whose last byte lies where code is known to be and may stand there; and the
+-- first caller, if there is one, isn't found by rules and has another return address
 pub record IsLinkCandidate (s : StackValue) (link : Option ℕ) (frames : List StackFrame)
     (f : StackFrame) : Type 0 where
   pub first : StackFrame
@@ -58,7 +58,7 @@ pub record IsLinkCandidate (s : StackValue) (link : Option ℕ) (frames : List S
   pub frame_pointer : f.frame_pointer ≡ first.frame_pointer
   pub trust : f.trust ≡ Link
   pub is_call : call_site s.cpu f.instruction ≡ Some call
-  pub in_module : IsTrue (is_code s.modules call)
+  pub at_code : IsTrue (has_code s.modules s.infos call)
   pub may_hold : IsTrue (may_hold_call s call)
   pub is_other : (caller : StackFrame) → slice_get frames 1 ≡ Some caller
       → (caller.trust ≢ Cfi) × (caller.instruction ≢ f.instruction)

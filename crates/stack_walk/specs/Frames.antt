@@ -26,7 +26,7 @@ use Rattle.stack_walk.specs.declared.frame.FrameTrust.TheVariants.{Context, Cfi,
 use Rattle.stack_walk.specs.declared.frame.StackFrame.{StackFrame}
 use Rattle.stack_walk.specs.declared.stack.Stack.{Stack}
 use Rattle.stack_walk.specs.Addresses.{address_after, unmarked, unsigned}
-use Rattle.stack_walk.specs.Lookups.{call_site, is_code, is_past_headers, may_be_run, may_end_call}
+use Rattle.stack_walk.specs.Lookups.{call_site, has_code, is_past_headers, may_be_run, may_end_call}
 
 -- a stack: the region of memory that holds it, if the dump has one, the modules, the memory, what
 -- is known of that, the processor, the width of an address, and how many of the low bits of a
@@ -131,11 +131,11 @@ outermost f (caller ∷ callers) = outermost caller callers
 
 -- the frame to which the record at an address returns. A record is two words: the saved frame
 -- pointer, which the frame has without the mark of Swift, and the return address. None where no
--- address lies after it, or no kept module has the call
+-- address lies after it, or no code is known to be where the call is
 unfoldable pub caller_at : StackValue → ℕ → ℕ → Option StackFrame
 caller_at s size address = option_and_then
     (λ after. option_and_then (λ saved. option_and_then (λ return_address. option_and_then
-    (λ call. if is_code s.modules call
+    (λ call. if has_code s.modules s.infos call
     then Some (record {
       instruction = return_address;
       stack_pointer = after;
@@ -168,12 +168,12 @@ abbrev pub may_hold_call : StackValue → ℕ → Bool
 may_hold_call s call = may_be_run s.infos call && may_end_call s.cpu s.memory call
 
 -- the candidate of an aligned word, by its number, how many words lie below it in the address
--- space: the frame whose return address the word may be, if a call may end before that, past the
--- headers of a kept module. None where no address lies after the word
+-- space: the frame whose return address the word may be, if a call before that may end, past the
+-- headers of a module. None where no address lies after the word
 unfoldable pub word_candidate : StackValue → ℕ → Option StackFrame
 word_candidate s number = option_and_then (λ size. option_and_then (λ after. option_and_then
     (λ return_address. option_and_then
-    (λ call. if is_past_headers s.modules call && may_hold_call s call
+    (λ call. if is_past_headers s.modules s.infos call && may_hold_call s call
     then Some (record {
       instruction = return_address;
       stack_pointer = after;
@@ -236,13 +236,15 @@ lacks frames address = option_map_or
     (slice_get frames 1) true
 
 -- the candidate of the link register of a walk's context, if it has one: the frame that the first
--- one may return to, where a call in a kept module may end before the return address, which the
--- walk lacks. It has the pointers of the first one: its stack pointer is that or a higher one
+-- one may return to. The walk lacks its return address, and code is known to be at the call before
+-- it, which may end there. It has the pointers of the first one: its stack pointer is that or a
+-- higher one
 unfoldable pub link_candidate : StackValue → Option ℕ → List StackFrame → Option StackFrame
 link_candidate s link frames = option_and_then
     (λ word. let address = unsigned s.code_bits word in option_and_then
     (λ first. option_and_then
-    (λ call. if lacks frames address && (is_code s.modules call && may_hold_call s call)
+    (λ call. if lacks frames address
+    && (has_code s.modules s.infos call && may_hold_call s call)
     then Some (record {
       instruction = address;
       stack_pointer = first.stack_pointer;

@@ -2,7 +2,7 @@
 -- memory there may be run and a call may end there.
 use Rattle.std.specs.Prelude.{ℕ, ◌+◌, ◌-◌, ◌/◌, ◌%◌, ◌==◌, ◌&&◌, ◌||◌, Bool, true, false, is_some}
 use Rattle.std.specs.Prelude.{nat_le, nat_lt, length, List, [], ◌∷◌, Option, Some, None, slice_range}
-use Rattle.std.specs.Prelude.{if◌then◌else◌}
+use Rattle.std.specs.Prelude.{if◌then◌else◌, not}
 use Rattle.std.specs.List.{enumerate_from}
 use Rattle.std.specs.Option.{option_and_then, option_map, option_map_or}
 use Rattle.minidump.specs.declared.system_info.Cpu.{Cpu}
@@ -10,8 +10,9 @@ use Rattle.minidump.specs.declared.system_info.Cpu.TheVariants as cpu
 use Rattle.minidump.specs.Below.Index.Lookup.{looked_up}
 use Rattle.minidump.specs.Below.MemoryLists.Memory.{range_of_region}
 use Rattle.minidump.specs.Below.MemoryLists.Unified.{UnifiedRegions, unified_regions}
-use Rattle.minidump.specs.Below.MemoryLists.UnifiedInfo.{InfoRegion, range_of_info_region}
-use Rattle.minidump.specs.Below.MemoryLists.UnifiedInfo.{region_is_executable}
+use Rattle.minidump.specs.Below.MemoryLists.UnifiedInfo.{InfoRegion, OfInfo, OfMaps}
+use Rattle.minidump.specs.Below.MemoryLists.UnifiedInfo.{range_of_info_region, region_is_executable}
+use Rattle.minidump.specs.Below.MemoryLists.UnifiedInfo.{region_is_writable}
 use Rattle.minidump.specs.Below.Modules.Module.{ModuleValue, range_of_module}
 use Rattle.stack_walk.specs.declared.frame.FrameTrust.{FrameTrust}
 use Rattle.stack_walk.specs.declared.frame.FrameTrust.TheVariants.{Context}
@@ -56,17 +57,39 @@ module_offset_at modules address =
 abbrev pub is_code : List ModuleValue → ℕ → Bool
 is_code modules address = is_some (looked_up range_of_module modules address)
 
+-- a region is committed, as that of a line of the maps: its state is neither winnt.h's MEM_FREE nor
+-- MEM_RESERVE, whose protection says nothing
+abbrev pub is_committed : InfoRegion → Bool
+is_committed (OfInfo m) = not (m.raw.state == 0x1_0000 || m.raw.state == 0x2000)
+is_committed (OfMaps m) = true
+
+-- a region is committed and may be run
+abbrev pub is_runnable : InfoRegion → Bool
+is_runnable region = is_committed region && region_is_executable region
+
 -- whether the memory at an address may be run, by what is known of it: also where nothing is known
 abbrev pub may_be_run : List InfoRegion → ℕ → Bool
-may_be_run infos address = option_map_or region_is_executable
-    (looked_up range_of_info_region infos address) true
+may_be_run infos address =
+    option_map_or is_runnable (looked_up range_of_info_region infos address) true
+
+-- code is known to be at an address: a kept module contains it, or memory that may be run, as that
+-- of code that was compiled while the process ran
+abbrev pub has_code : List ModuleValue → List InfoRegion → ℕ → Bool
+has_code modules infos address = is_code modules address
+    || option_map_or is_runnable (looked_up range_of_info_region infos address) false
+
+-- a region may be run, and not be written: where all memory may be run, data may be written, too
+abbrev pub is_code_alone : InfoRegion → Bool
+is_code_alone region = is_runnable region && not (region_is_writable region)
 
 -- ---- addresses after a call
 
--- an address lies in a kept module, and not in its first page, which has the module's headers
-abbrev pub is_past_headers : List ModuleValue → ℕ → Bool
-is_past_headers modules address =
-    option_map_or (λ place. nat_le 4096 place.1) (module_place modules address) false
+-- an address lies in a kept module, past its first page, which has the module's headers, or in no
+-- module, in memory that may be run and not be written
+abbrev pub is_past_headers : List ModuleValue → List InfoRegion → ℕ → Bool
+is_past_headers modules infos address = option_map_or (λ place. nat_le 4096 place.1)
+    (module_place modules address)
+    (option_map_or is_code_alone (looked_up range_of_info_region infos address) false)
 
 -- how many bytes an operand has, by mode and register of its ModR/M byte and the base of its SIB
 -- byte: the first alone in mode 3; the second where the register is 4; and a displacement of one

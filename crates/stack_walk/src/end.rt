@@ -25,8 +25,9 @@ pub enum WalkEnd {
     /// The memory of the stack doesn't hold both words of the frame record, or no address lies
     /// after the record: its end is 2^64 or more, or 2^32 or more where an address has 32 bits.
     NoRecord,
-    /// The return address is 0, or no kept module contains the address below it. On ARM of 32 bits
-    /// bit 0 of the return address is cleared first, and on ARM64 the bits that may sign it.
+    /// The return address is 0, or no code is known to be at the address below it: neither does a
+    /// kept module contain it nor memory that may be run. On ARM of 32 bits bit 0 of the return
+    /// address is cleared first, and on ARM64 the bits that may sign it.
     NoCode,
 }
 

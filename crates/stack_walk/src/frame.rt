@@ -1,13 +1,20 @@
 ghost use Rattle.std.specs.Prelude.{◌≡◌};
 ghost use Rattle.std.specs.Option.{option_copied, option_map};
+ghost use Rattle.minidump.specs.Below.MemoryLists.UnifiedInfo.{info_list, info_region, info_regions};
 ghost use Rattle.minidump.specs.Below.Modules.Module.{module_of};
 ghost use Rattle.minidump.specs.Below.Modules.ModuleList.{module_list_of};
 ghost use Rattle.stack_walk.specs.Evidence.{evidence_address};
-ghost use Rattle.stack_walk.specs.Lookups.{call_site, is_code, lookup_address, module_at};
-ghost use Rattle.stack_walk.specs.Lookups.{module_offset_at, module_place};
+ghost use Rattle.stack_walk.specs.Lookups.{call_site, has_code, is_code, is_code_alone};
+ghost use Rattle.stack_walk.specs.Lookups.{is_committed, is_past_headers, is_runnable};
+ghost use Rattle.stack_walk.specs.Lookups.{lookup_address, may_be_run, module_at, module_offset_at};
+ghost use Rattle.stack_walk.specs.Lookups.{module_place};
 
+use bitflags::Flags;
+use minidump::format::MemoryState;
 use minidump::system_info::{Cpu, PointerWidth};
-use minidump::{MinidumpModule, MinidumpModuleList, Module};
+use minidump::{
+    MinidumpModule, MinidumpModuleList, Module, UnifiedMemoryInfo, UnifiedMemoryInfoList,
+};
 
 /// How a frame was found.
 #[derive(Clone, Copy, PartialEq, Eq)]
@@ -126,4 +133,73 @@ pub fn is_code(modules: &MinidumpModuleList, address: u64) -> bool
     ensures { result ≡ is_code (module_list_of modules.now) address }
 {
     modules.module_at_address(address).is_some()
+}
+
+/// Tells whether code is known to be at an address: whether a kept module contains it, or memory
+/// that may be run, as that of code that was compiled while the process ran.
+pub fn has_code(
+    modules: &MinidumpModuleList,
+    infos: &UnifiedMemoryInfoList<'_>,
+    address: u64,
+) -> bool
+    ensures { result ≡ has_code (module_list_of modules.now)
+        (info_regions (info_list infos.now)) address }
+{
+    is_code(modules, address)
+        || infos
+            .memory_info_at_address(address)
+            .is_some_and(|region| is_runnable(region))
+}
+
+// Tells whether the memory at an address may be run, by what is known of it.
+pub(crate) fn may_be_run(infos: &UnifiedMemoryInfoList<'_>, address: u64) -> bool
+    ensures { result ≡ may_be_run (info_regions (info_list infos.now)) address }
+{
+    let region = infos.memory_info_at_address(address);
+    region.map_or(true, |region| is_runnable(region))
+}
+
+// Tells whether an address lies in a kept module, past its first page, which has the module's
+// headers, or in no module, in memory that may be run and not be written.
+pub(crate) fn is_past_headers(
+    modules: &MinidumpModuleList,
+    infos: &UnifiedMemoryInfoList<'_>,
+    address: u64,
+) -> bool
+    ensures { result ≡ is_past_headers (module_list_of modules.now)
+        (info_regions (info_list infos.now)) address }
+{
+    match module_place(modules, address) {
+        Some((_, offset)) => offset >= 4096,
+        None => infos
+            .memory_info_at_address(address)
+            .is_some_and(|region| is_code_alone(region)),
+    }
+}
+
+// Tells whether a region may be run, and not be written.
+fn is_code_alone(region: UnifiedMemoryInfo<'_, '_>) -> bool
+    ensures { result ≡ is_code_alone (info_region region.entry) }
+{
+    is_runnable(region) && !region.is_writable()
+}
+
+// Tells whether a region is committed and may be run.
+fn is_runnable(region: UnifiedMemoryInfo<'_, '_>) -> bool
+    ensures { result ≡ is_runnable (info_region region.entry) }
+{
+    is_committed(region) && region.is_executable()
+}
+
+// Tells whether a region is committed. The rights of any other one say nothing.
+fn is_committed(region: UnifiedMemoryInfo<'_, '_>) -> bool
+    ensures { result ≡ is_committed (info_region region.entry) }
+{
+    match region {
+        UnifiedMemoryInfo::Info(info) => {
+            info.raw.state != MemoryState::MEM_FREE.bits()
+                && info.raw.state != MemoryState::MEM_RESERVE.bits()
+        }
+        UnifiedMemoryInfo::Map(_) => true,
+    }
 }

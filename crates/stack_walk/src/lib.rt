@@ -56,7 +56,7 @@ mod walk;
 
 pub use addresses::{code_bits, is_address};
 pub use end::WalkEnd;
-pub use frame::{FrameTrust, StackFrame, is_code, module_place};
+pub use frame::{FrameTrust, StackFrame, has_code, is_code, module_place};
 use minidump::{Error, MinidumpContext};
 pub use scan::link_of;
 pub use stack::Stack;
@@ -68,19 +68,20 @@ pub use walk::{Walk, walk_stack};
 /// callers by frame pointers, and after them at most `limit` candidates, in the order of the stack.
 ///
 /// - The frame pointer is `ebp`, `rbp`, or ARM's `fp`. It points to the frame record, two words of
-///   the stack: the saved frame pointer, and the return address, which a kept module contains. A
-///   record lies at or above the stack pointer of its frame, which for a caller is the address
-///   after the record that leads to it. The last frame is the one whose frame pointer leads to no
-///   record. On Apple's systems an async function of Swift marks the frame pointer that it saves,
-///   by bit 60: where that bit alone of the highest four is set, the record stands at the address
-///   without the mark, and a caller by a record has its frame pointer without it.
+///   the stack: the saved frame pointer, and the return address, where code is known to be: a kept
+///   module contains it, or memory that may be run, as that of code that was compiled while the
+///   process ran. A record lies at or above the stack pointer of its frame, which for a caller is
+///   the address after the record that leads to it. The last frame is the one whose frame pointer
+///   leads to no record. On Apple's systems an async function of Swift marks the frame pointer that
+///   it saves, by bit 60: where that bit alone of the highest four is set, the record stands at the
+///   address without the mark, and a caller by a record has its frame pointer without it.
 /// - A candidate is an aligned word that may be a return address: a kept module contains it, past
-///   its first page, which has the module's headers; the memory there may be run, as far as is
-///   known of it; and on x86, x86-64 and ARM64 a call ends before it, as far as the dump has these
-///   bytes.
+///   its first page, which has the module's headers, or in no module memory that may be run and not
+///   be written; the memory there may be run, as far as is known of it; and on x86, x86-64 and ARM64
+///   a call ends before it, as far as the dump has these bytes.
 /// - The link register of ARM and ARM64 is a candidate, too, and the first: the return address of a
-///   function that hasn't saved it, as one that calls no other. A kept module contains it, also in
-///   its first page, the memory there may be run, and a call ends before it, as for a word. It is
+///   function that hasn't saved it, as one that calls no other. Code is known to be there, also in
+///   a module's first page, the memory may be run, and a call ends before it, as for a word. It is
 ///   none if it is the return address by which the first caller was found. No walk goes on from it,
 ///   since the register may be left from an earlier call.
 /// - The words from the last frame's stack pointer on are looked at, and before them those of the
@@ -92,7 +93,7 @@ pub use walk::{Walk, walk_stack};
 ///   [`Stack::candidates`] finds them in one pass over these words, and looks up the return address
 ///   of each among those that it has.
 ///
-/// A module contains a return address if it contains the address below it, which lies in the call.
+/// Code is at a return address if it is at the address below it, which lies in the call.
 /// On ARM of 32 bits bit 0 of the return address is cleared first. On ARM64, whose functions may
 /// sign a return address, a word of the stack and the link register are read without the bits above
 /// those of [`code_bits`], and the frame has the address that is left. One whose bit 55 is set is

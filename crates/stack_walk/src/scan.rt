@@ -10,7 +10,7 @@ ghost use Rattle.stack_walk.specs.declared.frame.StackFrame.{StackFrame};
 
 use crate::addresses::address_after;
 use crate::calls::may_end_call;
-use crate::frame::{call_site, is_code, module_place};
+use crate::frame::{call_site, has_code, is_past_headers, may_be_run};
 use crate::stack::record_of;
 use crate::{FrameTrust, Stack, StackFrame};
 use minidump::{MinidumpContext, MinidumpRawContext};
@@ -32,8 +32,8 @@ impl Stack<'_, '_> {
         let stack_pointer = address_after(self.width, address, size)?;
         let instruction = self.return_address(self.word_at(address)?);
         let call = call_site(self.cpu, instruction)?;
-        let (_, offset) = module_place(self.modules, call)?;
-        (offset >= 4096 && may_hold_call(self, call)).then_some(StackFrame {
+        let is_place = is_past_headers(self.modules, self.infos, call);
+        (is_place && may_hold_call(self, call)).then_some(StackFrame {
             instruction,
             stack_pointer,
             frame_pointer: None,
@@ -199,7 +199,7 @@ fn link_candidate(
     let first = frames.first()?;
     let call = call_site(stack.cpu, instruction)?;
     let is_candidate = lacks(frames, instruction)
-        && is_code(stack.modules, call)
+        && has_code(stack.modules, stack.infos, call)
         && may_hold_call(stack, call);
     is_candidate.then_some(StackFrame {
         instruction,
@@ -226,6 +226,5 @@ fn lacks(frames: &[StackFrame], address: u64) -> bool
 fn may_hold_call(stack: &Stack<'_, '_>, call: u64) -> bool
     ensures { result ≡ may_hold_call (stack_of stack.now) call }
 {
-    let info = stack.infos.memory_info_at_address(call);
-    info.map_or(true, |info| info.is_executable()) && may_end_call(stack.cpu, stack.code, call)
+    may_be_run(stack.infos, call) && may_end_call(stack.cpu, stack.code, call)
 }

@@ -3,7 +3,7 @@ ghost use Rattle.stack_walk.specs.Addresses.{unsigned};
 ghost use Rattle.stack_walk.specs.Frames.{caller_of, pointer_at, record_of, stack_of};
 
 use crate::addresses::{address_after, unmarked};
-use crate::frame::{call_site, is_code};
+use crate::frame::{call_site, has_code};
 use crate::{FrameTrust, StackFrame};
 use minidump::system_info::{Cpu, PointerWidth};
 use minidump::{MinidumpModuleList, UnifiedMemory, UnifiedMemoryInfoList, UnifiedMemoryList};
@@ -59,7 +59,7 @@ impl Stack<'_, '_> {
     }
 
     /// Returns the caller of a frame by its frame pointer, or `None` if that isn't known or leads
-    /// to no record, or if no kept module contains the return address there.
+    /// to no record, or if no code is known to be at the return address there.
     #[tactic(auto, using(crate::proofs::AddressLemmas::none_after), unfolding(crate::specs::Frames::caller_at))]
     pub fn caller_of(&self, frame: &StackFrame) -> Option<StackFrame>
         ensures { result ≡ caller_of (stack_of self.now) frame.now }
@@ -73,7 +73,7 @@ impl Stack<'_, '_> {
         let saved = self.word_at(address)?;
         let instruction = self.return_address(self.word_at(address + size)?);
         let call = call_site(self.cpu, instruction)?;
-        is_code(self.modules, call).then_some(StackFrame {
+        has_code(self.modules, self.infos, call).then_some(StackFrame {
             instruction,
             stack_pointer,
             frame_pointer: Some(unmarked(saved)),

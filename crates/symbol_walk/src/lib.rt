@@ -3,8 +3,8 @@
 //!
 //! - The first frame is that of the thread's context.
 //! - Its callers follow by the rules of their modules' symbol files: [`FrameTrust::Cfi`]. Where a
-//!   module has no symbols, or its rules give no caller, the caller is that by the frame pointer,
-//!   as in [`stack_walk`]; or else the walk starts again at the first of the next words of the
+//!   frame is in no module, or its module has no symbols, or its rules give no caller, the caller is
+//!   that by the frame pointer, as in [`stack_walk`]; or else the walk starts again at the first of the next words of the
 //!   stack that may be a return address into a function of the symbols: [`FrameTrust::Scan`].
 //! - The walk ends where the rules say that a frame has no caller, or where neither its rules nor
 //!   its frame pointer nor the next words give one.
