@@ -20,7 +20,7 @@ use Rattle.breakpad_symbols.specs.Grammar.{IsInlineLine}
 use Rattle.breakpad_symbols.specs.Inline.{any_covers, call_at, if_covering, if_depth, inline_in, inline_line, inline_with}
 use Rattle.breakpad_symbols.specs.LineRecord.{covers, if_covers, line_record, line_with}
 use Rattle.breakpad_symbols.specs.Records.{first_of, last_of, until}
-use Rattle.breakpad_symbols.proofs.FieldLemmas.{given, passed, some_same}
+use Rattle.minidump_bytes.proofs.CutLemmas.{given, passed, some_same}
 use Rattle.breakpad_symbols.proofs.GrammarLemmas.{record_spells, spelled_record}
 use Rattle.breakpad_symbols.proofs.InlineGrammarLemmas.{change_spells, inline_spells, spelled_change, spelled_inline}
 use Rattle.breakpad_symbols.proofs.MemberLemmas.{any_member, both, member_any}

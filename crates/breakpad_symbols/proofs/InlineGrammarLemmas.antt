@@ -13,7 +13,7 @@ use Rattle.breakpad_symbols.specs.Cfi.{ChangeValue, change_line}
 use Rattle.breakpad_symbols.specs.Grammar.{AreRanges, IsChangeLine, IsFileNumber, IsInlineLine, IsNumberedName}
 use Rattle.breakpad_symbols.specs.Inline.{InlineValue, file_number, inline_head, inline_line, ranges_in, some_ranges, with_range}
 use Rattle.breakpad_symbols.specs.NumberedName.{NameValue, numbered_name}
-use Rattle.breakpad_symbols.proofs.FieldLemmas.{after_prefix_is, after_prefix_some, field_is, given, is_field, some_same}
+use Rattle.minidump_bytes.proofs.CutLemmas.{after_prefix_is, after_prefix_some, cut_is, given, is_cut, some_same}
 
 -- ---- names by number
 name_by : (keyword line fields : List ℕ) (number : List ℕ × List ℕ) (n : ℕ) (v : NameValue)
@@ -26,7 +26,7 @@ name_by keyword line fields number n v k a b h =
       fields = fields;
       keyword_is = after_prefix_is keyword line fields k;
       number = number.0;
-      number_field = field_is fields number.0 number.1 a;
+      number_field = cut_is 32 fields number.0 number.1 a;
       number_is = number_spells 10 32 number.0 n b;
     })
 
@@ -43,7 +43,7 @@ unfolding numbered_name
 spelled_name keyword line v h =
     rw (
       after_prefix_some keyword line h.fields h.keyword_is,
-      is_field h.fields h.number v.name h.number_field,
+      is_cut 32 h.fields h.number v.name h.number_field,
       spelled_number 10 32 h.number v.number h.number_is,
     ) refl
 
@@ -61,7 +61,7 @@ change_by line fields address n c k a b h =
       fields = fields;
       keyword = after_prefix_is (codes "STACK CFI ") line fields k;
       address = address.0;
-      address_field = field_is fields address.0 address.1 a;
+      address_field = cut_is 32 fields address.0 address.1 a;
       address_is = number_spells 16 64 address.0 n b;
     })
 
@@ -78,7 +78,7 @@ unfolding change_line
 spelled_change line c h =
     rw (
       after_prefix_some (codes "STACK CFI ") line h.fields h.keyword,
-      is_field h.fields h.address c.rules h.address_field,
+      is_cut 32 h.fields h.address c.rules h.address_field,
       spelled_number 16 64 h.address c.address h.address_is,
     ) refl
 
@@ -161,16 +161,16 @@ inline_by text fields depth line file origin d l f o call rest rs k a b c e n m 
       keyword = after_prefix_is (codes "INLINE ") text fields k;
       depth = depth.0;
       after_depth = depth.1;
-      depth_field = field_is fields depth.0 depth.1 a;
+      depth_field = cut_is 32 fields depth.0 depth.1 a;
       line = line.0;
       after_line = line.1;
-      line_field = field_is depth.1 line.0 line.1 b;
+      line_field = cut_is 32 depth.1 line.0 line.1 b;
       file = file.0;
       after_file = file.1;
-      file_field = field_is line.1 file.0 file.1 c;
+      file_field = cut_is 32 line.1 file.0 file.1 c;
       origin = origin.0;
       ranges = origin.1;
-      origin_field = field_is file.1 origin.0 origin.1 e;
+      origin_field = cut_is 32 file.1 origin.0 origin.1 e;
       depth_is = number_spells 10 32 depth.0 d n;
       line_is = number_spells 10 32 line.0 l m;
       file_is = file_spells file.0 f p;
@@ -224,10 +224,10 @@ unfolding inline_head
 spelled_inline text i h =
     rw (
       after_prefix_some (codes "INLINE ") text h.fields h.keyword,
-      is_field h.fields h.depth h.after_depth h.depth_field,
-      is_field h.after_depth h.line h.after_line h.line_field,
-      is_field h.after_line h.file h.after_file h.file_field,
-      is_field h.after_file h.origin h.ranges h.origin_field,
+      is_cut 32 h.fields h.depth h.after_depth h.depth_field,
+      is_cut 32 h.after_depth h.line h.after_line h.line_field,
+      is_cut 32 h.after_line h.file h.after_file h.file_field,
+      is_cut 32 h.after_file h.origin h.ranges h.origin_field,
       spelled_number 10 32 h.depth i.call.depth h.depth_is,
       spelled_number 10 32 h.line i.call.line h.line_is,
       spelled_file h.file i.call.file h.file_is,

@@ -9,7 +9,8 @@ use Rattle.minidump_bytes.specs.LinuxOsStr.{words_of}
 use Rattle.breakpad_symbols.specs.declared.inline.InlineCall.{InlineCall}
 use Rattle.breakpad_symbols.specs.Inline.{any_covers, call_at, if_depth, inline_with, ranges_in, with_range}
 use Rattle.breakpad_symbols.specs.LineRecord.{covers}
-use Rattle.breakpad_symbols.specs.Lines.{and_then, first_line, lines_of}
+use Rattle.minidump_bytes.specs.Cut.{and_then}
+use Rattle.breakpad_symbols.specs.Lines.{first_line, lines_of}
 use Rattle.breakpad_symbols.specs.Numbered.{first_numbered}
 use Rattle.breakpad_symbols.specs.Records.{first_of, until}
 use Rattle.breakpad_symbols.proofs.LineLemmas.{a_line, no_line}

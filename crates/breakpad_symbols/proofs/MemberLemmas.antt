@@ -3,7 +3,7 @@ use Rattle.std.proofs.Common.{◌≡◌, Bool, true, false, List, [], ◌∷◌,
 use Rattle.std.specs.Prelude.{◌&&◌, ◌||◌, Contains, not, IsSome}
 use Rattle.std.specs.List.{find, list_any}
 use Rattle.minidump_index.proofs.ContainsLemmas.{cases, head, nothing, tail}
-use Rattle.breakpad_symbols.proofs.FieldLemmas.{some_same}
+use Rattle.minidump_bytes.proofs.CutLemmas.{some_same}
 
 pub and_false : (b : Bool) → (b && false) ≡ false
 and_false true = refl

@@ -16,7 +16,7 @@ use Rattle.breakpad_symbols.specs.declared.numbered_name.NumberedName.{NumberedN
 use Rattle.breakpad_symbols.specs.Numbered.{HasFirsts, IsNearestNumber, first_numbered}
 use Rattle.breakpad_symbols.specs.NumberedName.{name_of}
 use Rattle.breakpad_symbols.specs.SymbolFile.{name_in}
-use Rattle.breakpad_symbols.proofs.FieldLemmas.{some_same}
+use Rattle.minidump_bytes.proofs.CutLemmas.{some_same}
 
 -- what is found among mapped values
 pub find-map : {A B : Type 0} (f : A → B) (p : B → Bool) (xs : List A) → find p (map f xs) ≡ option_map f (find (λ x. p (f x)) xs)

@@ -9,7 +9,7 @@ use Rattle.breakpad_symbols.specs.Function.{function_in}
 use Rattle.breakpad_symbols.specs.NumberedName.{numbered_name}
 use Rattle.breakpad_symbols.specs.Public.{public_line}
 use Rattle.breakpad_symbols.specs.RecordLists.{HaveMore, may_be_record}
-use Rattle.breakpad_symbols.proofs.FieldLemmas.{after_prefix_none}
+use Rattle.minidump_bytes.proofs.CutLemmas.{after_prefix_none}
 
 -- a line that begins with no first letter of a keyword has none
 no_keyword : (keyword line : List ℕ) → ((rest : List ℕ) → may_be_record (keyword ++ rest) ≡ true) → may_be_record line ≡ false

@@ -7,7 +7,7 @@ use Rattle.std.proofs.lemmas.Slice.Eq.{bytes_eq-Decides}
 use Rattle.breakpad_symbols.specs.declared.expression.Operator.{Operator}
 use Rattle.breakpad_symbols.specs.Expression.{StateValue, apply, apply_on, by_operator, only, operand, operator, read_on, step, value_from, value_of, word_at}
 use Rattle.breakpad_symbols.specs.Tree.{HasValue, Tree, Leaf, Memory, Both, tree_value, tree_words, unless_operator}
-use Rattle.breakpad_symbols.proofs.FieldLemmas.{given, some_same}
+use Rattle.minidump_bytes.proofs.CutLemmas.{given, some_same}
 
 module _ (state : StateValue) (frame_address : Option ℕ) where
   abbrev Tree_value : Tree → Option ℕ

@@ -2,7 +2,7 @@
 use Rattle.std.specs.Prelude.{ℕ, List, codes, Option, Some, None}
 use Rattle.breakpad_symbols.specs.Cfi.{CfiValue, rule_at}
 use Rattle.breakpad_symbols.specs.Expression.{StateValue, value_of}
-use Rattle.breakpad_symbols.specs.Lines.{and_then}
+use Rattle.minidump_bytes.specs.Cut.{and_then}
 
 -- the canonical frame address: the value of its rule
 abbrev pub frame_address_at : StateValue → CfiValue → ℕ → Option ℕ

@@ -10,7 +10,7 @@ use Rattle.breakpad_symbols.specs.declared.expression.Operator.TheVariants.{Add,
 use Rattle.breakpad_symbols.specs.declared.expression.Operator.TheVariants.{Multiply, Divide}
 use Rattle.breakpad_symbols.specs.declared.expression.Operator.TheVariants.{Remainder, Align}
 use Rattle.breakpad_symbols.specs.AddressWidth.{cut, negative}
-use Rattle.breakpad_symbols.specs.Lines.{and_then}
+use Rattle.minidump_bytes.specs.Cut.{and_then}
 
 -- what rules can refer to: the number of bits of an address, the registers by their names, and the
 -- words of memory, as wide as an address

@@ -3,7 +3,7 @@ use Rattle.std.specs.Prelude.{ℕ, List, codes, Option, Some}
 use Rattle.minidump_bytes.specs.Digits.{number_of_digits}
 use Rattle.minidump_bytes.specs.LinuxOsStr.{after_prefix, cut_first, text_of}
 use Rattle.breakpad_symbols.specs.declared.numbered_name.NumberedName.{NumberedName}
-use Rattle.breakpad_symbols.specs.Lines.{and_then}
+use Rattle.minidump_bytes.specs.Cut.{and_then}
 
 -- a number and the name that it stands for
 pub record NameValue : Type 0 where

@@ -3,7 +3,7 @@ use Rattle.std.specs.Prelude.{◌≡◌, ℕ, List, [], ◌∷◌, ◌++◌, cod
 use Rattle.std.specs.Str.{bytes_eq}
 use Rattle.breakpad_symbols.specs.declared.expression.Operator.{Operator}
 use Rattle.breakpad_symbols.specs.Expression.{StateValue, apply, operand, operator, word_at}
-use Rattle.breakpad_symbols.specs.Lines.{and_then}
+use Rattle.minidump_bytes.specs.Cut.{and_then}
 
 -- a word that is a number, a register or the frame address; the word of memory at an address; an
 -- operator's word and its operands

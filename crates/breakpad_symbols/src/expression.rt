@@ -7,8 +7,8 @@ ghost use Rattle.breakpad_symbols.specs.Expression.{operator, read_on, step, val
 
 use crate::AddressWidth;
 use crate::value_stack::ValueStack;
-use crate::words::{first_word, is_label};
-use minidump_bytes::LinuxOsStr;
+use crate::words::is_label;
+use minidump_bytes::{LinuxOsStr, first_word};
 use std::alloc::{AllocError, Global};
 
 /// The registers of a frame, and the memory of its process.

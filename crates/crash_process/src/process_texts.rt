@@ -11,9 +11,8 @@ ghost use Rattle.minidump.specs.Promise.{linux_cpu_info_stream, linux_proc_statu
 ghost use Rattle.crash_process.specs.ProcessTexts.{command_line_in, command_text, comments_in, comments_of, cpu_text};
 ghost use Rattle.crash_process.specs.ProcessTexts.{spaced, status_number, status_size, value_in};
 
-use crash_streams::before_nul;
 use minidump::format::MINIDUMP_STREAM_TYPE;
-use minidump::own_streams::text_before_nul;
+use minidump::own_streams::{before_nul, text_before_nul};
 use minidump::strings::LinuxOsStr;
 use minidump::{
     Endian, Error, LinuxPairs, Minidump, MinidumpLinuxCpuInfo, MinidumpLinuxProcStatus, Source,

@@ -36,4 +36,4 @@ pub use records::{
     Access, Sender, SignalCode, access_of, description_of, lacks_address, may_be_instruction,
     parameters_of, sender_of,
 };
-pub use texts::{before_nul, owned_text};
+pub use texts::owned_text;

@@ -7,9 +7,9 @@ ghost use Rattle.crash_streams.specs.Records.{is_protection, is_sent, lacks_addr
 ghost use Rattle.crash_streams.specs.Records.{parameters_in, sender_by};
 ghost use Rattle.crash_streams.specs.Records.{sender_in, signal_code, signal_code_name, user_at};
 
-use crate::texts::before_nul;
 use minidump::MinidumpSystemInfo;
 use minidump::format::MINIDUMP_EXCEPTION;
+use minidump::own_streams::before_nul;
 use minidump::strings::LinuxOsStr;
 use minidump::system_info::{Cpu, Os, PointerWidth};
 use std::alloc::{AllocError, Global};

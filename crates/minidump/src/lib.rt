@@ -159,7 +159,7 @@ pub mod strings {
 /// What a caller's own type of stream may be read by, beside [`Source`] and [`Record`]: framings of
 /// lists, and regions with lookups.
 pub mod own_streams {
-    pub use minidump_bytes::{Entries, Exact, array_at, copy_text, text_before_nul};
+    pub use minidump_bytes::{Entries, Exact, array_at, before_nul, copy_text, text_before_nul};
     pub use minidump_index::RegionList;
     pub use minidump_system::framing;
 }

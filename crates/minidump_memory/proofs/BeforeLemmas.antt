@@ -11,9 +11,8 @@ use Rattle.minidump_bytes.proofs.DigitLemmas.{narrow_large as digits_narrow_larg
 use Rattle.minidump_bytes.proofs.DigitLemmas.{number_empty, number_none, number_past, number_some, number_spells, spelled_number}
 use Rattle.minidump_bytes.specs.Digits.{IsNumber, number_of_digits}
 use Rattle.minidump_bytes.specs.LinuxOsStr.{cut_first}
-use Rattle.minidump_memory.proofs.OptionLemmas.{given, some_same}
-use Rattle.minidump_memory.proofs.SeparatorLemmas.{cut_is, is_cut}
-use Rattle.minidump_memory.specs.MapLine.{IsCut, Lacks, and_then}
+use Rattle.minidump_bytes.proofs.CutLemmas.{cut_is, given, is_cut, some_same}
+use Rattle.minidump_bytes.specs.Cut.{IsCut, Lacks, and_then}
 use Rattle.minidump_memory.specs.MapParts.{number_before}
 
 -- ---- bytes that are lacking

@@ -6,10 +6,10 @@ use Rattle.minidump_bytes.specs.Digits.{IsNumber}
 use Rattle.minidump_bytes.specs.LinuxOsStr.{cut_first}
 use Rattle.minidump_memory.proofs.BeforeLemmas.{before_is, digits_lack, lacks_back, lacks_between, number_is_before}
 use Rattle.minidump_memory.proofs.GrammarLemmas.{fields_spell, spelled_fields}
-use Rattle.minidump_memory.proofs.OptionLemmas.{given, some_same}
+use Rattle.minidump_bytes.proofs.CutLemmas.{cut_is, given, is_cut, some_same}
 use Rattle.minidump_memory.proofs.PathLemmas.{letters_spell, path_spells, spelled_letters, spelled_path}
-use Rattle.minidump_memory.proofs.SeparatorLemmas.{cut_is, is_cut}
-use Rattle.minidump_memory.specs.MapLine.{AreFields, AreTwo, IsCut, Lacks, MapRegion, fields_in, path_in, permissions}
+use Rattle.minidump_bytes.specs.Cut.{IsCut, Lacks}
+use Rattle.minidump_memory.specs.MapLine.{AreFields, AreTwo, MapRegion, fields_in, path_in, permissions}
 use Rattle.minidump_memory.specs.MapParts.{fields_in_turn, number_before, permissions_before, two_before}
 
 -- ---- two numbers, and the space after them

@@ -1,6 +1,5 @@
 ghost use Rattle.std.specs.Prelude.{◌≡◌, ◌↔◌, ◌+◌, ◌<◌, ◌≤◌, ◌==◌, Ok, IfErr, IfOk, IsOk, IsOkUnless, drop, length};
 ghost use Rattle.std.specs.Prelude.{string_bytes};
-ghost use Rattle.std.specs.List.{before_first, position};
 ghost use Rattle.std.specs.Option.{option_map};
 ghost use Rattle.minidump_bytes.specs.Number.{number_at};
 ghost use Rattle.minidump_bytes.specs.Source.{bytes_of};
@@ -11,7 +10,7 @@ ghost use Rattle.minidump_modules.specs.CodeView.{RecordTakesMemory, ViewTakesMe
 ghost use Rattle.minidump_modules.specs.CodeView.{lossy_name, pdb20_in, pdb70_in, record_reads, view_of, view_reads};
 
 use crate::text::copy_bytes;
-use minidump_bytes::{Endian, Source, Steps};
+use minidump_bytes::{Endian, Source, Steps, before_nul};
 use minidump_format::Error;
 use minidump_format::format::{
     CV_INFO_ELF, CV_INFO_PDB20, CV_INFO_PDB70, CvSignature, GUID, MINIDUMP_LOCATION_DESCRIPTOR,
@@ -216,20 +215,4 @@ pub(crate) fn lossy_name(alloc: Global, bytes: &[u8]) -> Result<String, AllocErr
     ensures { IfOk result (λ t. string_bytes t ≡ lossy_name bytes.now) }
 {
     String::from_utf8_lossy(alloc, before_nul(bytes))
-}
-
-// Returns the bytes before the first NUL, or all of them if there is none.
-fn before_nul(bytes: &[u8]) -> &[u8]
-    ensures { result.now ≡ before_first (λ b. b == 0) bytes.now }
-{
-    match first_nul(bytes) {
-        Some(end) => &bytes[..end],
-        None => bytes,
-    }
-}
-
-fn first_nul(bytes: &[u8]) -> Option<usize>
-    ensures { result ≡ position (λ b. b == 0) bytes.now }
-{
-    bytes.iter().position(|b| *b == 0)
 }

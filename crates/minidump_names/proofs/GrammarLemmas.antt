@@ -13,10 +13,8 @@ use Rattle.minidump_bytes.proofs.DigitLemmas.{number_spells, spelled_number}
 use Rattle.minidump_bytes.specs.Digits.{number_of_digits}
 use Rattle.minidump_bytes.specs.LinuxOsStr.{after_prefix, cut_first}
 use Rattle.minidump_bytes.specs.Text8.{utf8_text}
-use Rattle.minidump_memory.specs.MapLine.{IsCut, and_then}
-use Rattle.minidump_memory.proofs.MapTextLemmas.{after_prefix_is, after_prefix_some}
-use Rattle.minidump_memory.proofs.OptionLemmas.{given, passed, some_same}
-use Rattle.minidump_memory.proofs.SeparatorLemmas.{cut_is, is_cut}
+use Rattle.minidump_bytes.specs.Cut.{IsCut, and_then}
+use Rattle.minidump_bytes.proofs.CutLemmas.{after_prefix_is, after_prefix_some, cut_is, given, is_cut, passed, some_same}
 use Rattle.minidump_reason.specs.declared.family.CodeFamily.{CodeFamily}
 use Rattle.minidump_reason.specs.declared.family.CodeFamily.TheVariants.{Mac, MacBadAccessKern, MacBadAccessArm, MacBadAccessPpc, MacBadAccessX86}
 use Rattle.minidump_reason.specs.declared.family.CodeFamily.TheVariants.{MacBadInstructionArm, MacBadInstructionPpc, MacBadInstructionX86}

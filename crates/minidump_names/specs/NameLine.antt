@@ -8,7 +8,7 @@ use Rattle.std.specs.Str.{IsUtf8, bytes_eq}
 use Rattle.minidump_bytes.specs.Digits.{IsNumber, number_of_digits}
 use Rattle.minidump_bytes.specs.LinuxOsStr.{after_prefix, cut_first, is_white}
 use Rattle.minidump_bytes.specs.Text8.{utf8_text}
-use Rattle.minidump_memory.specs.MapLine.{IsCut, and_then}
+use Rattle.minidump_bytes.specs.Cut.{IsCut, and_then}
 use Rattle.minidump_reason.specs.declared.family.CodeFamily.{CodeFamily}
 use Rattle.minidump_reason.specs.declared.family.CodeFamily.TheVariants.{Mac, MacBadAccessKern, MacBadAccessArm}
 use Rattle.minidump_reason.specs.declared.family.CodeFamily.TheVariants.{MacBadAccessPpc, MacBadAccessX86}

@@ -1,4 +1,5 @@
 -- What `minidump_bytes` defines, for the crates above this one.
+pub use Rattle.minidump_bytes.specs.Cut
 pub use Rattle.minidump_bytes.specs.Digits
 pub use Rattle.minidump_bytes.specs.Entries
 pub use Rattle.minidump_bytes.specs.Exact

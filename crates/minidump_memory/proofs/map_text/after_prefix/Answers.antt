@@ -1,6 +1,6 @@
 -- What follows a front is the text without it.
 use Rattle.std.proofs.Common.{◌≡◌, ◌++◌, ap, sym, ◌∙◌}
-use Rattle.minidump_memory.proofs.MapTextLemmas.{after_prefix_none, after_prefix_some}
+use Rattle.minidump_bytes.proofs.CutLemmas.{after_prefix_none, after_prefix_some}
 use Rattle.minidump_memory.proofs.map_text.after_prefix.Goals as goal
 
 pub returns-in-Some : goal.returns-in-Some

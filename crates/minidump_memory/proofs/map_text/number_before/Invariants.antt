@@ -1,7 +1,7 @@
 -- The number of the digits so far, none of which is the byte.
 use Rattle.std.proofs.Common.{◌≡◌, ◌<◌, ◌^◌, take}
 use Rattle.std.specs.Str.Parse.{AllDigits, digits_value}
-use Rattle.minidump_memory.specs.MapLine.{Lacks}
+use Rattle.minidump_bytes.specs.Cut.{Lacks}
 use Rattle.minidump_memory.proofs.map_text.number_before.Given as goal
 
 abbrev pub invariant-loop-at : goal.invariant-loop-at

@@ -2,7 +2,7 @@
 use Rattle.std.proofs.Common.{◌≡◌, take}
 use Rattle.std.specs.Prelude.{◌==◌}
 use Rattle.std.specs.List.{list_any}
-use Rattle.minidump_memory.specs.MapLine.{Lacks}
+use Rattle.minidump_bytes.specs.Cut.{Lacks}
 use Rattle.minidump_memory.proofs.map_text.permissions_before.Given as goal
 
 abbrev pub invariant-loop-at : goal.invariant-loop-at
