@@ -83,6 +83,9 @@ pub fn crash_json(
     ensures text { Gives (λ text. text.items) ⊤ result
         (map_ok (text_of limits.now (option_copied path.entry) None)
         (crash_in bytes.now names.now scan)) }
+    ensures reads { Gives (λ text. document text.items) ⊤ result
+        (map_ok (λ c. Some (json_of limits.now (option_copied path.entry) None c))
+        (crash_in bytes.now names.now scan)) }
     ensures utf8 { IfOk result (λ text. IsUtf8 text.items) }
 {
     let crash = Crash::read(alloc, bytes, names, scan)?;

@@ -10,7 +10,8 @@
 //!
 //! # Errors
 //!
-//! `AllocError` alone, if an allocation fails.
+//! `AllocError` alone, if an allocation fails. After it a text has what it had, and of a call that
+//! appends several lines perhaps some of these.
 //!
 //! # What is proved
 //!

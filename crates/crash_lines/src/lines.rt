@@ -28,9 +28,10 @@ pub fn push_line(out: &mut String, pieces: &[Piece<'_>]) -> Result<(), AllocErro
     push_text_line(out, text.as_str())
 }
 
-/// Appends the line of a row.
+/// Appends the line of a row. If an allocation fails, the text is as it was.
 pub fn push_row(out: &mut String, parts: &[Part<'_>]) -> Added
-    ensures { Adds out.old out.new (flat_map part_text parts.now ∷ []) result }
+    ensures ok { Adds out.old out.new (flat_map part_text parts.now ∷ []) result }
+    ensures err { OnErr result (string_bytes out.new ≡ string_bytes out.old) }
 {
     let text = format_parts(*out.allocator(), parts)?;
     push_text_line(out, text.as_str())
@@ -63,17 +64,20 @@ pub(crate) fn push_text_line(out: &mut String, text: &str) -> Added
     out.push_str(line.as_str())
 }
 
-/// Appends the line of the number of something.
+/// Appends the line of the number of something. If an allocation fails, the text is as it was.
 #[tactic(auto, unfolding(crate::specs::Words::count_row))]
 pub fn push_count(out: &mut String, what: &str, count: usize) -> Added
-    ensures { Adds out.old out.new (count_row what.now count ∷ []) result }
+    ensures ok { Adds out.old out.new (count_row what.now count ∷ []) result }
+    ensures err { OnErr result (string_bytes out.new ≡ string_bytes out.old) }
 {
     push_row(out, &[Words(what), Words(" "), Decimal(count as u64)])
 }
 
-/// Appends a line of words if an error says that something is missing.
+/// Appends a line of words if an error says that something is missing. If an allocation fails, the
+/// text is as it was.
 pub fn push_if_missing(out: &mut String, words: &str, error: Error) -> Added
-    ensures { Adds out.old out.new (if_missing words.now error) result }
+    ensures ok { Adds out.old out.new (if_missing words.now error) result }
+    ensures err { OnErr result (string_bytes out.new ≡ string_bytes out.old) }
 {
     if is_missing(error) {
         push_text_line(out, words)

@@ -39,7 +39,8 @@ pub struct CrashProcess {
     /// The release of Linux, or `None` if its stream can't be read.
     pub release: Option<LsbRelease>,
     /// The arguments of its command line, as the copy of Linux's `/proc/PID/cmdline` has them, with a
-    /// space between two and U+FFFD for what isn't UTF-8; `None` if its stream can't be read.
+    /// space between two and U+FFFD for what isn't UTF-8, and without white space around them all;
+    /// `None` if its stream can't be read.
     pub command_line: Option<String>,
     /// The comments of the dump.
     pub comments: Comments,

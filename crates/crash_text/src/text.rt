@@ -67,7 +67,7 @@ pub fn text_of<'l>(
 ) -> Result<String, AllocError>
     ensures text { IfOk result (λ text. string_bytes text ≡ text_of limits.now
         (option_map symbolized_of (option_copied symbols.entry)) (crash_of crash.now)) }
-    // it has no control character but the ends of its lines
+    // it has no byte below 0x20 but the ends of its lines, and no 0x7f
     ensures printed { IfOk result (λ text. list_all is_printed (string_bytes text) ≡ true) }
 {
     let mut text = String::new(alloc);

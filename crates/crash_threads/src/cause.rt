@@ -88,10 +88,11 @@ pub struct CrashException {
     /// The address of the crash: the one that was accessed where the record has it, else that of
     /// the record, in as many bits as a pointer has. `None` without system information, for a signal
     /// that a process sent, and on Linux and Android if it is 0, but for SIGILL, SIGTRAP, SIGBUS,
-    /// SIGFPE and SIGSEGV, which have an address unless the kernel sent them without one, by
-    /// SI_KERNEL, as for an access to an address that isn't canonical. On macOS such an access is an
-    /// EXC_BAD_ACCESS with EXC_I386_GPFLT, which has no address either if it is 0. On Windows it is an
-    /// access violation that reads the last address, which has none on x86 and x86-64.
+    /// SIGFPE and SIGSEGV, which have an address unless the kernel sent them without one: any of them
+    /// by SI_KERNEL, as for an access to an address that isn't canonical, SIGSEGV by SEGV_MTEAERR or
+    /// SEGV_CPERR, SIGBUS by BUS_ADRALN. On macOS an access to such an address is an EXC_BAD_ACCESS
+    /// with EXC_I386_GPFLT, which has no address either if it is 0. On Windows it is an access
+    /// violation that reads the last address, which has none on x86 and x86-64.
     ///
     /// `None` also for an access, or on Linux and Android a code that is no fault's, as SIGABRT, whose
     /// flags don't say why it was raised, if its address is the instruction pointer of its own context

@@ -19,6 +19,7 @@ ghost use Rattle.minidump.specs.Below.MemoryLists.MemoryInfo.{info_of};
 ghost use Rattle.minidump.specs.Below.Modules.CodeView.{view_of};
 ghost use Rattle.minidump.specs.Below.Modules.Module.{module_of};
 ghost use Rattle.minidump.specs.Below.Modules.UnloadedModule.{unloaded_of};
+ghost use Rattle.minidump.specs.Below.Records.Record.{mac_record_of};
 ghost use Rattle.minidump.specs.Promise.{exception_stream, linux_cpu_info_stream};
 ghost use Rattle.minidump.specs.Promise.{linux_environ_stream, linux_lsb_release_stream};
 ghost use Rattle.minidump.specs.Promise.{linux_maps_stream, linux_proc_limits_stream};
@@ -204,14 +205,20 @@ pub fn thread_name(names: &MinidumpThreadNames, thread_id: u32) -> Option<&str>
 
 /// Returns how many entries of a list of names name a text where none is.
 pub fn unreadable_names(names: &MinidumpThreadNames) -> u64
-    ensures { result ≡ (thread_names_stream.value names.now).unreadable }
+    ensures { thread_names_stream.value names.now ≡ record {
+      names = (thread_names_stream.value names.now).names;
+      unreadable = result;
+    } }
 {
     names.unreadable_names()
 }
 
 /// Returns how many records macOS's crash information counts that can't be read.
 pub fn unreadable_records(info: &MinidumpMacCrashInfo) -> u64
-    ensures { result ≡ (mac_crash_info_stream.value info.now).unreadable }
+    ensures { mac_crash_info_stream.value info.now ≡ record {
+      records = map mac_record_of info.now.raw.items;
+      unreadable = result;
+    } }
 {
     info.unreadable_records()
 }

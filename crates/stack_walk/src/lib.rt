@@ -27,7 +27,8 @@
 //! - The walk ends on every stack, and its length is bounded by that of the stack:
 //!   [`laws::frames_are_few`].
 //! - The scan takes the first candidates, as many as are asked for, and leaves out no return
-//!   address if that is enough: [`laws::each_aligned_word_is_scanned`]. None is there twice:
+//!   address if as many are asked for as the stack has bytes:
+//!   [`laws::each_aligned_word_is_scanned`]. None is there twice:
 //!   [`laws::each_return_address_is_once`].
 //! - The candidate of the link register comes first, where a call may return to it and the first
 //!   caller, if there is one, isn't found by rules and has another return address. No other
