@@ -7,6 +7,7 @@ use Rattle.minidump.specs.declared.Error.{Error}
 use Rattle.minidump.specs.declared.RawMiscInfo.{RawMiscInfo}
 use Rattle.minidump.specs.declared.system_info.Cpu.{Cpu}
 use Rattle.minidump.specs.declared.system_info.Os.{Os}
+use Rattle.minidump.specs.declared.system_info.Os.TheVariants.{Android}
 use Rattle.minidump.specs.Below.System.MiscInfo.{process_create_time, process_id}
 use Rattle.minidump.specs.Below.System.OsParts.{os_parts_of}
 use Rattle.minidump.specs.Below.System.System.{System}
@@ -72,10 +73,15 @@ process_of p = record {
 
 -- ---- the value of the streams
 
+-- the platform as which a version is written: that of Android is written as that of Linux, MD_OS_LINUX
+abbrev version_platform : Os → ℕ → ℕ
+version_platform Android platform = 0x8201
+version_platform _ platform = platform
+
 -- the version of a system, and its build
-abbrev version_and_build : System → List ℕ × Option (List ℕ)
+abbrev pub version_and_build : System → List ℕ × Option (List ℕ)
 version_and_build s = os_parts_of s.raw.major_version s.raw.minor_version s.raw.build_number
-    s.raw.platform_id s.csd_version
+    (version_platform s.os s.raw.platform_id) s.csd_version
 
 -- the description of the processor by the system's information, else by that of Linux
 abbrev pub cpu_model : System → Result (List ℕ) Error → Option (List ℕ)
@@ -93,10 +99,15 @@ system_in system cpu = option_map (λ s. record {
   microcode = cpu_text (codes "microcode") cpu;
 }) (result_ok system)
 
+-- the id of a process by Linux's status, which is that of one of its threads, as of the one that crashed: `Tgid`, since
+-- `Pid` is the id of the thread (proc_pid_status(5)); else `Pid`
+abbrev pub status_id : Result (List ℕ) Error → Option ℕ
+status_id status =
+    option_or (status_number (codes "Tgid") status) (status_number (codes "Pid") status)
+
 -- the id of the process by the misc information, else by Linux's status
 abbrev pub id_in : Result RawMiscInfo Error → Result (List ℕ) Error → Option ℕ
-id_in misc status =
-    option_or (option_and_then process_id (result_ok misc)) (status_number (codes "Pid") status)
+id_in misc status = option_or (option_and_then process_id (result_ok misc)) (status_id status)
 
 -- for how many seconds the process had run: from its beginning, by the misc information, until the dump was
 -- written. None where the beginning isn't there, is 0, or comes after the dump

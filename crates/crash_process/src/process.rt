@@ -6,7 +6,7 @@ ghost use Rattle.minidump.specs.Promise.{linux_cpu_info_stream, linux_proc_statu
 ghost use Rattle.minidump.specs.Promise.{misc_info_stream, system_info_stream};
 ghost use Rattle.crash_streams.specs.Contents.{contents_of};
 ghost use Rattle.crash_process.specs.Process.{cpu_model, id_in, process_in, process_of, system_in, system_of};
-ghost use Rattle.crash_process.specs.Process.{uptime_in};
+ghost use Rattle.crash_process.specs.Process.{status_id, uptime_in, version_and_build};
 
 use crate::handle_kinds::{HandleKind, kinds_of};
 use crate::linux::{LsbRelease, release_of};
@@ -14,6 +14,7 @@ use crate::process_texts::{
     Comments, command_line_of, comments_of, cpu_text, status_number, status_size,
 };
 use crash_streams::Contents;
+use minidump::format::PlatformId;
 use minidump::system_info::{Cpu, Os};
 use minidump::{
     Error, Minidump, MinidumpLinuxCpuInfo, MinidumpLinuxProcStatus, MinidumpMiscInfo,
@@ -26,7 +27,8 @@ use std::alloc::{AllocError, Global};
 pub struct CrashProcess {
     /// The system, or `None` if its information can't be read.
     pub system: Option<CrashSystem>,
-    /// The id, by the misc information, else by Linux's status; `None` if neither has it.
+    /// The id, by the misc information, else by Linux's status, `Tgid` or else `Pid`: that status is a
+    /// thread's, whose own id is `Pid`. `None` if neither has it.
     pub id: Option<u32>,
     /// The id of its parent, `PPid` of Linux's status; 0 if that is outside of the process's
     /// namespace.
@@ -58,10 +60,10 @@ pub struct CrashSystem {
     pub cpu: Cpu,
     /// The number of processors.
     pub processors: u8,
-    /// The version of the operating system, by [`MinidumpSystemInfo::os_parts`].
+    /// The version of the operating system, by [`MinidumpSystemInfo::os_parts`], where Android counts
+    /// as Linux: of both Breakpad has it in a text.
     pub version: String,
-    /// The build of that version, or on Windows its service pack, by
-    /// [`MinidumpSystemInfo::os_parts`].
+    /// The build of that version, or on Windows its service pack, in the same way.
     pub build: Option<String>,
     /// The description of the processor, by the system information, else the first `model name` of
     /// Linux's `/proc/cpuinfo`, with U+FFFD for what isn't UTF-8.
@@ -108,7 +110,7 @@ fn system_of(
     let Ok(system) = system else {
         return Ok(None);
     };
-    let (version, build) = system.os_parts(alloc)?;
+    let (version, build) = version_and_build(alloc, system)?;
     Ok(Some(CrashSystem {
         os: system.os,
         cpu: system.cpu,
@@ -118,6 +120,25 @@ fn system_of(
         cpu_model: cpu_model_of(alloc, system, cpu)?,
         microcode: cpu_text(alloc, cpu, b"microcode")?,
     }))
+}
+
+// Makes the version of a system, and its build.
+fn version_and_build(
+    alloc: Global,
+    system: &MinidumpSystemInfo,
+) -> Result<(String, Option<String>), Error>
+    ensures parts { IfOk result (λ r. (string_bytes r.0, option_map string_bytes r.1)
+        ≡ version_and_build (system_info_stream.value system.now)) }
+    ensures memory { IsOkUnless result Error.OutOfMemory }
+{
+    match system.os {
+        Os::Android => {
+            let mut as_linux = system.try_clone(alloc)?;
+            as_linux.raw.platform_id = PlatformId::Linux.number();
+            as_linux.os_parts(alloc)
+        }
+        _ => system.os_parts(alloc),
+    }
 }
 
 // Copies the description of the processor.
@@ -146,7 +167,14 @@ fn id_of(
 {
     misc.as_ref()
         .map_or(None, |misc| misc.raw.process_id().copied())
-        .or(status_number(status, b"Pid"))
+        .or(status_id(status))
+}
+
+// Returns the id of the process by Linux's status.
+fn status_id(status: &Result<MinidumpLinuxProcStatus<'_>, Error>) -> Option<u32>
+    ensures { result ≡ status_id (map_ok linux_proc_status_stream.value status.now) }
+{
+    status_number(status, b"Tgid").or(status_number(status, b"Pid"))
 }
 
 // Returns for how many seconds the process had run.

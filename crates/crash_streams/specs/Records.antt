@@ -2,6 +2,7 @@
 -- how memory was accessed, and who sent a signal.
 use Rattle.std.specs.Prelude.{ℕ, codes, false, true, ◌-◌, ◌%◌, ◌/◌, ◌^◌, ◌==◌, ◌||◌, ◌&&◌, nat_le, nat_lt, not, Bool}
 use Rattle.std.specs.Prelude.{List, min, slice_index, take, length, Option, Some, None, if◌then◌else◌}
+use Rattle.std.specs.Prelude.{is_some}
 use Rattle.std.specs.Int.{to_le_bytes, w64}
 use Rattle.std.specs.List.{before_first, flat_map}
 use Rattle.std.specs.Option.{option_and_then, option_map_or}
@@ -15,6 +16,7 @@ use Rattle.minidump.specs.declared.system_info.PointerWidth.{PointerWidth}
 use Rattle.minidump.specs.declared.system_info.PointerWidth.TheVariants.{Bits32}
 use Rattle.minidump.specs.Below.System.Cpu.{width_of}
 use Rattle.minidump.specs.Below.System.System.{System}
+use Rattle.minidump.specs.Exception.{crash_address}
 use Rattle.crash_streams.specs.declared.records.Access.{Access}
 use Rattle.crash_streams.specs.declared.records.Access.TheVariants.{Execute, Read, Write}
 use Rattle.crash_streams.specs.declared.records.Sender.{Sender}
@@ -41,14 +43,19 @@ description_in r =
 
 -- ---- accesses
 
+-- an exception of Windows is an access to a guard page, as to that at the end of a stack: winnt.h's EXCEPTION_GUARD_PAGE
+-- and EXCEPTION_STACK_OVERFLOW. Its parameters are those of an access violation
+abbrev pub is_guard_access : ℕ → Bool
+is_guard_access code = code == 0x80000001 || code == 0xc00000fd
+
 -- an exception is an access to memory, by its code on an operating system: Linux's SIGBUS and SIGSEGV,
--- macOS's EXC_BAD_ACCESS, and winnt.h's EXCEPTION_ACCESS_VIOLATION and EXCEPTION_IN_PAGE_ERROR
+-- macOS's EXC_BAD_ACCESS, and winnt.h's EXCEPTION_ACCESS_VIOLATION and EXCEPTION_IN_PAGE_ERROR, and those to guard pages
 abbrev pub is_access : Os → ℕ → Bool
 is_access Linux code = code == 7 || code == 11
 is_access Android code = code == 7 || code == 11
 is_access MacOs code = code == 1
 is_access Ios code = code == 1
-is_access Windows code = code == 0xc0000005 || code == 0xc0000006
+is_access Windows code = (code == 0xc0000005 || code == 0xc0000006) || is_guard_access code
 is_access _ code = false
 
 -- an address is the one that Windows gives for a general protection, which x86 and x86-64 have: all bits of
@@ -173,6 +180,37 @@ sender_on has_codes _ cpu r = None
 abbrev pub sender_in : Bool → Option System → MINIDUMP_EXCEPTION → Option Sender
 sender_in has_codes system r = option_and_then (λ s. sender_on has_codes s.os s.cpu r) system
 
+-- ---- a process of macOS that no exception of the processor ended
+
+-- the signal that ended it, as SIGABRT by abort(): Crashpad then has the code 0, and as parameters those of EXC_CRASH, 10,
+-- whose first code has the signal in bits 24 to 31 (xnu's proc_prepareexit)
+abbrev pub ending_signal : Os → MINIDUMP_EXCEPTION → Option ℕ
+ending_signal MacOs r = if (r.exception_code == 0 && nat_le 2 r.number_parameters)
+    && slice_index r.exception_information 0 == 10
+    then Some (slice_index r.exception_information 1 / 2 ^ 24 % 2 ^ 8) else None
+ending_signal _ r = None
+
+-- the name of a signal of macOS that ends a process so (sys/signal.h)
+abbrev pub mac_signal_name : ℕ → Option (List ℕ)
+mac_signal_name n = if n == 3 then Some (codes "SIGQUIT") else (if n == 4 then Some (codes "SIGILL")
+    else (if n == 5 then Some (codes "SIGTRAP") else (if n == 6 then Some (codes "SIGABRT")
+    else (if n == 8 then Some (codes "SIGFPE") else (if n == 9 then Some (codes "SIGKILL")
+    else (if n == 10 then Some (codes "SIGBUS") else (if n == 11 then Some (codes "SIGSEGV")
+    else (if n == 12 then Some (codes "SIGSYS") else None))))))))
+
+-- ---- the address
+
+-- the record of an access to a guard page has the address that was accessed
+abbrev has_guard_address : Os → MINIDUMP_EXCEPTION → Bool
+has_guard_address Windows r = is_guard_access r.exception_code && nat_le 2 r.number_parameters
+has_guard_address _ r = false
+
+-- the address of a crash on an operating system and a processor: the one that was accessed, else that of the record. An
+-- access to a guard page has it as an access violation does
+abbrev pub address_on : Os → Cpu → MINIDUMP_EXCEPTION → ℕ
+address_on os cpu r = crash_address os cpu
+    (if has_guard_address os r then record r { exception_code = 0xc0000005 } else r)
+
 -- ---- an address that isn't known
 
 -- the signals of faults, which alone have an `si_addr` (sigaction(2)): SIGILL, SIGTRAP, SIGBUS, SIGFPE and
@@ -192,11 +230,10 @@ abbrev has_no_fault_address : MINIDUMP_EXCEPTION → Bool
 has_no_fault_address r = r.exception_address == 0
     && (not (is_fault r.exception_code) || is_without_address r.exception_code r.exception_flags)
 
--- macOS's kernel gives 0 for a general protection of x86, as for an address that isn't canonical: EXC_BAD_ACCESS, 1,
--- with EXC_I386_GPFLT, 13 (mach/i386/exception.h)
-abbrev has_no_protection_address : MINIDUMP_EXCEPTION → Bool
-has_no_protection_address r = r.exception_address == 0
-    && (r.exception_code == 1 && r.exception_flags == 13)
+-- a general protection of x86 on macOS, as for an address that isn't canonical: EXC_BAD_ACCESS, 1, with EXC_I386_GPFLT,
+-- 13 (mach/i386/exception.h). The kernel gives 0 for its address, and Crashpad has the program counter in its place
+abbrev is_mac_protection : MINIDUMP_EXCEPTION → Bool
+is_mac_protection r = r.exception_code == 1 && r.exception_flags == 13
 
 -- the second parameter of an access of Windows, which is its address, says nothing: LLDB's text stands over it,
 -- or it is that of a general protection
@@ -208,7 +245,7 @@ has_no_access_address cpu r = (has_lldb_flag r
 abbrev pub lacks_address : Os → Cpu → MINIDUMP_EXCEPTION → Bool
 lacks_address Linux cpu r = has_no_fault_address r
 lacks_address Android cpu r = has_no_fault_address r
-lacks_address MacOs cpu r = has_no_protection_address r
+lacks_address MacOs cpu r = is_mac_protection r || is_some (ending_signal MacOs r)
 lacks_address Windows cpu r = has_no_access_address cpu r
 lacks_address _ cpu r = false
 

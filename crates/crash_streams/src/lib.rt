@@ -33,7 +33,7 @@ pub use contents::{
     unloaded_entries,
 };
 pub use records::{
-    Access, Sender, SignalCode, access_of, description_of, lacks_address, may_be_instruction,
-    parameters_of, sender_of,
+    Access, Sender, SignalCode, access_of, crash_address, description_of, ending_signal,
+    lacks_address, mac_signal_name, may_be_instruction, parameters_of, sender_of,
 };
 pub use texts::owned_text;

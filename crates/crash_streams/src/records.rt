@@ -2,22 +2,27 @@
 ghost use Rattle.std.specs.Prelude.{◌≡◌, ◌%◌, ◌^◌, IfOk, string_bytes};
 ghost use Rattle.std.specs.Option.{option_copied, option_map};
 ghost use Rattle.minidump.specs.Promise.{system_info_stream};
-ghost use Rattle.crash_streams.specs.Records.{access_in, description_in, is_access, is_no_fault, is_process};
-ghost use Rattle.crash_streams.specs.Records.{is_protection, is_sent, lacks_address, may_be_instruction};
-ghost use Rattle.crash_streams.specs.Records.{parameters_in, sender_by};
+ghost use Rattle.crash_streams.specs.Records.{access_in, address_on, description_in, is_access, is_guard_access};
+ghost use Rattle.crash_streams.specs.Records.{ending_signal, mac_signal_name};
+ghost use Rattle.crash_streams.specs.Records.{is_no_fault, is_process, is_protection, is_sent, lacks_address};
+ghost use Rattle.crash_streams.specs.Records.{may_be_instruction, parameters_in, sender_by};
 ghost use Rattle.crash_streams.specs.Records.{sender_in, signal_code, signal_code_name, user_at};
 
-use minidump::MinidumpSystemInfo;
 use minidump::format::MINIDUMP_EXCEPTION;
 use minidump::own_streams::before_nul;
 use minidump::strings::LinuxOsStr;
 use minidump::system_info::{Cpu, Os, PointerWidth};
+use minidump::{MinidumpException, MinidumpSystemInfo};
 use std::alloc::{AllocError, Global};
 
 // Codes of winnt.h.
 const EXCEPTION_ACCESS_VIOLATION: u32 = 0xc000_0005;
 
 const EXCEPTION_IN_PAGE_ERROR: u32 = 0xc000_0006;
+
+const EXCEPTION_STACK_OVERFLOW: u32 = 0xc000_00fd;
+
+const EXCEPTION_GUARD_PAGE: u32 = 0x8000_0001;
 
 // The flags of a record of LLDB, which is llvm's `LLDB_FLAG`.
 const LLDB_FLAG: u32 = 0x4c4c_4442;
@@ -46,10 +51,12 @@ const SEGV_CPERR: u32 = 10;
 
 const BUS_ADRALN: u32 = 1;
 
-// Of macOS: a code, and its flags for a general protection.
+// Of macOS: a code, its flags for a general protection, and the code of a process that ended by a signal.
 const EXC_BAD_ACCESS: u32 = 1;
 
 const EXC_I386_GPFLT: u32 = 13;
+
+const EXC_CRASH: u64 = 10;
 
 /// How memory was accessed.
 #[derive(Clone, Copy, PartialEq, Eq)]
@@ -130,7 +137,7 @@ pub fn description_of(alloc: Global, raw: &MINIDUMP_EXCEPTION) -> Result<Option<
 }
 
 /// Returns how memory was accessed, if the record says it: by the first parameter of an access of
-/// Windows.
+/// Windows, also to a guard page.
 pub fn access_of(system: Option<&MinidumpSystemInfo>, raw: &MINIDUMP_EXCEPTION) -> Option<Access>
     ensures { result ≡ access_in
         (option_map system_info_stream.value (option_copied system.entry)) raw.now }
@@ -156,9 +163,20 @@ fn is_access(os: Os, code: u32) -> bool
     match os {
         Os::Linux | Os::Android => code == SIGBUS || code == SIGSEGV,
         Os::MacOs | Os::Ios => code == EXC_BAD_ACCESS,
-        Os::Windows => code == EXCEPTION_ACCESS_VIOLATION || code == EXCEPTION_IN_PAGE_ERROR,
+        Os::Windows => {
+            code == EXCEPTION_ACCESS_VIOLATION
+                || code == EXCEPTION_IN_PAGE_ERROR
+                || is_guard_access(code)
+        }
         _ => false,
     }
+}
+
+// Tells whether an exception of Windows is an access to a guard page, as to that at the end of a stack.
+fn is_guard_access(code: u32) -> bool
+    ensures { result ≡ is_guard_access code }
+{
+    code == EXCEPTION_GUARD_PAGE || code == EXCEPTION_STACK_OVERFLOW
 }
 
 // Tells whether a record of Windows is that of a general protection: a read of the last address.
@@ -177,6 +195,55 @@ fn is_protection(cpu: Cpu, raw: &MINIDUMP_EXCEPTION) -> bool
         && is_last
 }
 
+/// Returns the signal that ended a process of macOS without an exception of the processor, as SIGABRT by
+/// `abort`. Crashpad then has no code, but the parameters of EXC_CRASH.
+pub fn ending_signal(os: Os, raw: &MINIDUMP_EXCEPTION) -> Option<u8>
+    ensures { result ≡ ending_signal os raw.now }
+{
+    let has_signal = matches!(os, Os::MacOs)
+        && raw.exception_code == 0
+        && raw.number_parameters >= 2
+        && raw.exception_information[0] == EXC_CRASH;
+    let signal = (raw.exception_information[1] / 0x100_0000 % 0x100) as u8;
+    has_signal.then_some(signal)
+}
+
+/// Returns the name of a signal of macOS that ends a process with EXC_CRASH.
+pub fn mac_signal_name(signal: u8) -> Option<&'static str>
+    ensures { option_copied result ≡ mac_signal_name signal }
+{
+    match signal {
+        3 => Some("SIGQUIT"),
+        4 => Some("SIGILL"),
+        5 => Some("SIGTRAP"),
+        6 => Some("SIGABRT"),
+        8 => Some("SIGFPE"),
+        9 => Some("SIGKILL"),
+        10 => Some("SIGBUS"),
+        11 => Some("SIGSEGV"),
+        12 => Some("SIGSYS"),
+        _ => None,
+    }
+}
+
+/// Returns the address of a crash: the one that was accessed where the record has it, else that of the
+/// record, in as many bits as a pointer has. Unlike [`MinidumpException::get_crash_address`] it also
+/// knows the address that an access of Windows to a guard page has, as a stack overflow.
+pub fn crash_address(system: &MinidumpSystemInfo, exception: &MinidumpException<'_>) -> u64
+    ensures { result ≡ address_on system.now.os system.now.cpu exception.now.raw.exception_record }
+{
+    let record = &exception.raw.exception_record;
+    let has_guard_address = matches!(system.os, Os::Windows)
+        && is_guard_access(record.exception_code)
+        && record.number_parameters >= 2;
+    let accessed = record.exception_information[1];
+    match system.cpu.pointer_width() {
+        _ if !has_guard_address => exception.get_crash_address(system.os, system.cpu),
+        PointerWidth::Bits32 => accessed % 0x1_0000_0000,
+        _ => accessed,
+    }
+}
+
 /// Tells whether the record of an exception has no address of a crash.
 pub fn lacks_address(os: Os, cpu: Cpu, raw: &MINIDUMP_EXCEPTION) -> bool
     ensures { result ≡ lacks_address os cpu raw.now }
@@ -191,7 +258,10 @@ pub fn lacks_address(os: Os, cpu: Cpu, raw: &MINIDUMP_EXCEPTION) -> bool
                 SIGSEGV => flags == SI_KERNEL || flags == SEGV_MTEAERR || flags == SEGV_CPERR,
                 _ => true,
             },
-        Os::MacOs => is_0 && code == EXC_BAD_ACCESS && flags == EXC_I386_GPFLT,
+        Os::MacOs => {
+            let is_protection = code == EXC_BAD_ACCESS && flags == EXC_I386_GPFLT;
+            is_protection || ending_signal(os, raw).is_some()
+        }
         Os::Windows => {
             let has_text = flags == LLDB_FLAG && is_access(os, code) && raw.number_parameters >= 2;
             has_text || is_protection(cpu, raw)

@@ -93,10 +93,15 @@ abbrev pub is_guarded : InfoRegion → Bool
 is_guarded (OfInfo m) = has_flag m.protection 0x100
 is_guarded (OfMaps m) = false
 
+-- a region may be read, and is copied where it is written: winnt.h's PAGE_WRITECOPY and PAGE_EXECUTE_WRITECOPY
+abbrev pub is_copied : InfoRegion → Bool
+is_copied (OfInfo m) = has_flag m.protection 0x8 || has_flag m.protection 0x80
+is_copied (OfMaps m) = false
+
 -- the rights of a region, if it is committed
 abbrev pub region_rights : InfoRegion → MemoryRights
 region_rights region = record {
-  is_readable = region_is_readable region;
+  is_readable = region_is_readable region || is_copied region;
   is_writable = region_is_writable region;
   is_executable = region_is_executable region;
   is_guarded = is_guarded region;

@@ -1,7 +1,8 @@
 -- Where and why a process crashed: its exceptions, which of them counts, and what is known of the
 -- address of the crash.
 use Rattle.std.specs.Prelude.{ℕ, ◌==◌, ◌||◌, ◌&&◌, Bool, false, List, map, Option, Some, None, Result}
-use Rattle.std.specs.Prelude.{if◌then◌else◌, string_bytes}
+use Rattle.std.specs.Prelude.{◌++◌, codes, if◌then◌else◌, string_bytes, unwrap_or}
+use Rattle.std.specs.Fmt.{decimal}
 use Rattle.std.specs.Option.{option_and_then, option_map, option_map_or}
 use Rattle.minidump.specs.declared.Error.{Error}
 use Rattle.minidump.specs.declared.format.MINIDUMP_EXCEPTION.{MINIDUMP_EXCEPTION}
@@ -11,7 +12,7 @@ use Rattle.minidump.specs.Below.Reasons.Names.{Lists}
 use Rattle.minidump.specs.Below.Reasons.Reason.{crash_reason}
 use Rattle.minidump.specs.Below.Reasons.ReasonText.{reason_text}
 use Rattle.minidump.specs.Below.System.System.{System}
-use Rattle.minidump.specs.Exception.{Exception, crash_address}
+use Rattle.minidump.specs.Exception.{Exception}
 use Rattle.stack_walk.specs.Frames.{instruction_pointer_in}
 use Rattle.stack_walk.specs.Lookups.{has_code}
 use Rattle.crash_threads.specs.declared.addresses.AddressFacts.{AddressFacts}
@@ -24,7 +25,8 @@ use Rattle.crash_threads.specs.Addresses.{facts_of}
 use Rattle.crash_streams.specs.Contents.{ContentsValue, has_signal_codes}
 use Rattle.crash_threads.specs.Contexts.{any_context, named_bytes, problem_in, system_of}
 use Rattle.crash_threads.specs.Counting.{counted, counting}
-use Rattle.crash_streams.specs.Records.{access_in, description_in, lacks_address, may_be_instruction}
+use Rattle.crash_streams.specs.Records.{access_in, address_on, description_in, lacks_address}
+use Rattle.crash_streams.specs.Records.{ending_signal, mac_signal_name, may_be_instruction}
 use Rattle.crash_streams.specs.Records.{parameters_in, sender_in}
 
 -- an exception: its thread, its code and flags, where it happened, where the record of another one
@@ -93,7 +95,7 @@ is_instruction s e address = option_map_or (λ f. instruction_pointer_in f.raw =
 -- as at 0, the thread jumped to it, and that was the access
 abbrev has_no_address : ContentsValue → System → Exception → Bool
 has_no_address c s e =
-    let address = crash_address s.os s.cpu e.raw.exception_record in
+    let address = address_on s.os s.cpu e.raw.exception_record in
     lacks_address s.os s.cpu e.raw.exception_record || (may_be_instruction s.os e.raw.exception_record
     && (is_instruction s e address
     && has_code c.space.modules (info_regions c.space.infos) address))
@@ -101,13 +103,19 @@ has_no_address c s e =
 -- the address of a crash where the system is known, unless a process sent the signal, or the record has none
 abbrev pub address_unless : ContentsValue → Option Sender → Option System → Exception → Option ℕ
 address_unless c None (Some s) e = if has_no_address c s e then None
-    else Some (crash_address s.os s.cpu e.raw.exception_record)
+    else Some (address_on s.os s.cpu e.raw.exception_record)
 address_unless c _ _ e = None
+
+-- the words for a signal that ended a process of macOS: its name, or its number
+abbrev pub signal_words : ℕ → List ℕ
+signal_words signal = codes "EXC_CRASH / "
+    ++ unwrap_or (mac_signal_name signal) (codes "signal " ++ decimal signal)
 
 -- the words for its reason, where the system is known
 abbrev pub reason_in : Lists → Option System → Exception → Option (List ℕ)
-reason_in names system e = option_map
-    (λ s. reason_text names (crash_reason names s.os s.cpu e.raw.exception_record)) system
+reason_in names system e = option_map (λ s. let r = e.raw.exception_record in
+    unwrap_or (option_map signal_words (ending_signal s.os r))
+    (reason_text names (crash_reason names s.os s.cpu r))) system
 
 -- the process that sent the signal of a record of a dump with these contents
 abbrev pub sender_of_record : ContentsValue → MINIDUMP_EXCEPTION → Option Sender

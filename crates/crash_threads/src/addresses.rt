@@ -177,12 +177,18 @@ fn memory_at(contents: &Contents<'_>, address: u64) -> Option<AddressMemory>
     ensures { result ≡ memory_at (contents_of contents.now) address }
 {
     let region = contents.space.infos.memory_info_at_address(address)?;
-    let is_guarded = match region {
-        UnifiedMemoryInfo::Info(info) => info.protection.contains(MemoryProtection::PAGE_GUARD),
-        UnifiedMemoryInfo::Map(_) => false,
+    let (is_guarded, is_copied) = match region {
+        UnifiedMemoryInfo::Info(info) => (
+            info.protection.contains(MemoryProtection::PAGE_GUARD),
+            info.protection.contains(MemoryProtection::PAGE_WRITECOPY)
+                || info
+                    .protection
+                    .contains(MemoryProtection::PAGE_EXECUTE_WRITECOPY),
+        ),
+        UnifiedMemoryInfo::Map(_) => (false, false),
     };
     let rights = MemoryRights {
-        is_readable: region.is_readable(),
+        is_readable: region.is_readable() || is_copied,
         is_writable: region.is_writable(),
         is_executable: region.is_executable(),
         is_guarded,

@@ -4,6 +4,7 @@ ghost use Rattle.minidump.specs.Below.Contexts.Context.{map_ok};
 ghost use Rattle.minidump.specs.Promise.{exception_stream, system_info_stream};
 ghost use Rattle.crash_threads.specs.Cause.{address_at, address_unless, cause_in, cause_of, counted_exception};
 ghost use Rattle.crash_threads.specs.Cause.{exception_in, exception_of, is_instruction, reason_in};
+ghost use Rattle.crash_threads.specs.Cause.{signal_words};
 ghost use Rattle.crash_streams.specs.Contents.{contents_of};
 ghost use Rattle.crash_threads.specs.Counting.{counted, counting, counting_exception};
 
@@ -11,13 +12,15 @@ use crate::addresses::{AddressFacts, facts_of};
 use crate::contexts::{ContextProblem, context_on, named_bytes, problem_in};
 use crate::last::last_index;
 use crash_streams::{
-    Access, Contents, Sender, access_of, description_of, has_signal_codes, lacks_address,
-    may_be_instruction, parameters_of, sender_of,
+    Access, Contents, Sender, access_of, crash_address, description_of, ending_signal,
+    has_signal_codes, lacks_address, mac_signal_name, may_be_instruction, parameters_of, sender_of,
 };
+use minidump::text::Piece::{Decimal, Words};
+use minidump::text::format_pieces;
 use minidump::{CodeNames, Error, MinidumpContext, MinidumpException, MinidumpSystemInfo};
 use minidump_bytes::as_text;
 use stack_walk::has_code;
-use std::alloc::Global;
+use std::alloc::{AllocError, Global};
 
 /// Where and why a process crashed.
 #[derive(Drop)]
@@ -70,8 +73,9 @@ pub struct CrashException {
     /// nothing, and `LLDB` (0x4c4c4442) in the flags; `None` for other flags, and for an empty text. The
     /// text ends before its first NUL, or has all 120 bytes; U+FFFD stands for what isn't UTF-8.
     pub description: Option<String>,
-    /// How memory was accessed, if it is an access violation or an in-page error of Windows, and `None`
-    /// for a general protection, whose record has no access.
+    /// How memory was accessed, if it is an access violation, an in-page error or an access to a guard
+    /// page of Windows, as a stack overflow, and `None` for a general protection, whose record has no
+    /// access.
     pub access: Option<Access>,
     /// The process that sent the signal, if one did, on Linux and Android. The address of the
     /// record then has the id of the process in the low 32 bits and that of its user in the high
@@ -91,18 +95,20 @@ pub struct CrashException {
     /// SIGFPE and SIGSEGV, which have an address unless the kernel sent them without one: any of them
     /// by SI_KERNEL, as for an access to an address that isn't canonical, SIGSEGV by SEGV_MTEAERR or
     /// SEGV_CPERR, SIGBUS by BUS_ADRALN. On macOS an access to such an address is an EXC_BAD_ACCESS
-    /// with EXC_I386_GPFLT, which has no address either if it is 0. On Windows it is an access
-    /// violation that reads the last address, which has none on x86 and x86-64.
+    /// with EXC_I386_GPFLT, which has no address either, nor has a process that a signal ended
+    /// ([`crash_streams::ending_signal`]). On Windows it is an access violation that
+    /// reads the last address, which has none on x86 and x86-64.
     ///
     /// `None` also for an access, or on Linux and Android a code that is no fault's, as SIGABRT, whose
     /// flags don't say why it was raised, if its address is the instruction pointer of its own context
     /// and code is known to be there, in a module or in memory that may be run: LLDB writes that
     /// address, whatever was accessed. Such flags are LLDB's and, but on Windows, 0; the accesses are
-    /// SIGSEGV and SIGBUS, EXC_BAD_ACCESS of macOS and iOS, and the access violations and in-page errors
-    /// of Windows. On Windows LLDB's flags also say that a text stands in the place of an address in the
+    /// SIGSEGV and SIGBUS, EXC_BAD_ACCESS of macOS and iOS, and the access violations, in-page errors and
+    /// accesses to guard pages of Windows. On Windows LLDB's flags also say that a text stands in the place of an address in the
     /// parameters.
     pub address: Option<u64>,
-    /// The reason of the crash in words, or `None` without system information.
+    /// The reason of the crash in words, or `None` without system information. Of a process of macOS that
+    /// a signal ended it is `EXC_CRASH` and the signal.
     pub reason: Option<String>,
     /// Why its context can't give registers, or `None` if it can, whole or cut short: also where
     /// those of the thread's own are used, as beside one that is cut short.
@@ -185,7 +191,7 @@ fn address_unless(
         return None;
     };
     let record = &exception.raw.exception_record;
-    let address = exception.get_crash_address(system.os, system.cpu);
+    let address = crash_address(system, exception);
     let has_no_address = lacks_address(system.os, system.cpu, record)
         || may_be_instruction(system.os, record)
             && is_instruction(exception, system, address)
@@ -225,8 +231,26 @@ fn reason_of(
     let Some(system) = system else {
         return Ok(None);
     };
-    let reason = exception.get_crash_reason(system.os, system.cpu, names);
-    Ok(Some(reason.text(alloc, names)?))
+    match ending_signal(system.os, &exception.raw.exception_record) {
+        Some(signal) => Ok(Some(signal_words(alloc, signal)?)),
+        None => {
+            let reason = exception.get_crash_reason(system.os, system.cpu, names);
+            Ok(Some(reason.text(alloc, names)?))
+        }
+    }
+}
+
+// Makes the words for a signal that ended a process of macOS.
+fn signal_words(alloc: Global, signal: u8) -> Result<String, AllocError>
+    ensures { IfOk result (λ text. string_bytes text ≡ signal_words signal) }
+{
+    match mac_signal_name(signal) {
+        Some(name) => format_pieces(alloc, &[Words("EXC_CRASH / "), Words(name)]),
+        None => format_pieces(
+            alloc,
+            &[Words("EXC_CRASH / signal "), Decimal(signal as u64)],
+        ),
+    }
 }
 
 // Returns what is known of the address of the crash.

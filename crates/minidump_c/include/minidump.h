@@ -205,8 +205,8 @@ struct minidump_exception {
     uint32_t parameter_count; /* how many parameters its record has, at most 15 */
     uint32_t sender;          /* the id of the process that sent the signal, on Linux and Android */
     uint32_t sender_user;     /* the id of the user of that process */
-    uint16_t access;          /* enum minidump_access, of access violations and in-page errors of Windows; 0 for others, for a
-                               * general protection, and where LLDB's text stands */
+    uint16_t access;          /* enum minidump_access, of access violations, in-page errors and accesses to guard pages of Windows;
+                               * 0 for others, for a general protection, and where LLDB's text stands */
     uint16_t context_problem; /* enum minidump_problem: why its context gives no registers; 0 if it gives some */
     uint8_t has_exception;
     uint8_t is_sent; /* a process sent the signal; has_sender tells whether its id is known */
