@@ -33,7 +33,7 @@ loop-row-preserved c =
     let fits = rw c.loop-row.invariant.size at steps.1.1 in
     record {
       size = steps.0 ∙ c.loop-row.invariant.size;
-      whole = rw (c.in_ok-push_row.ensures, append_assoc, append-nil)
+      whole = rw (c.in_ok-push_row.ensures.ok, append_assoc, append-nil)
           (rw (rows_next {Y = List ℕ × ℕ} (λ r. (r.0.now, r.1)) (chunks_rest c.loop-row.row-iterator) c.in-Some.row.now (chunks_rest c.next.new.self) steps.1.0 fits steps.1.2) at
           c.loop-row.invariant.whole);
     }
