@@ -51,7 +51,7 @@ crash_by names scan d c = record {
   process = process_in d c;
   cause = cause_in names c;
   threads = threads_in names scan c;
-  point = point_in c (code_bits_in c) (threads_in names scan c).crashing;
+  point = point_in c (code_bits_in c) (cause_in names c).counts (threads_in names scan c).crashing;
   modules = modules_in d c;
   damage = damage_in c (directory_in d c) (process_in d c) (cause_in names c)
       (threads_in names scan c);
@@ -70,4 +70,4 @@ status_of (Ok c) = if length c.damage == 0 then 0 else 1
 
 -- the stack and the context by which the thread of an index is walked
 abbrev pub walked_in : CrashValue → ℕ → Option (StackValue × MinidumpContext)
-walked_in c thread = walked_at c.contents c.threads.code_bits thread
+walked_in c thread = walked_at c.contents c.threads.code_bits c.cause.counts thread

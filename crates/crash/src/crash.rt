@@ -67,7 +67,12 @@ impl<'a> Crash<'a> {
     pub fn walked(&self, thread: usize) -> Option<(Stack<'_, 'a>, MinidumpContext)>
         ensures { option_map walked_of result ≡ walked_in (crash_of self.now) thread }
     {
-        walked_at(&self.contents, self.threads.code_bits, thread)
+        walked_at(
+            &self.contents,
+            self.threads.code_bits,
+            self.cause.counts,
+            thread,
+        )
     }
 
     /// Drops the crash. By this call a caller's crate need not prove how it is dropped.
@@ -103,7 +108,13 @@ fn crash_of_dump<'a>(
     let process = process_of(alloc, dump, &contents)?;
     let cause = cause_of(alloc, &contents, names)?;
     let threads = threads_of(alloc, &contents, names, scan)?;
-    let point = point_of(alloc, &contents, threads.code_bits, threads.crashing)?;
+    let point = point_of(
+        alloc,
+        &contents,
+        threads.code_bits,
+        cause.counts,
+        threads.crashing,
+    )?;
     let modules = modules_of(alloc, file, dump, &contents)?;
     let damage = damage_of(alloc, &contents, &directory, &process, &cause, &threads)?;
     Ok(Crash {

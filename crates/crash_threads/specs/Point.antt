@@ -132,12 +132,12 @@ set_flags (OldArm64 c) = names_in arm64_flags c.cpsr
 -- ---- all of it
 
 -- the point of the thread of an index, which has a walk, by its stack and context
-abbrev pub point_in : ContentsValue → ℕ → Option ℕ → Option PointValue
-point_in c bits thread = option_map (λ w. let raw = w.1.raw in record {
+abbrev pub point_in : ContentsValue → ℕ → Option ℕ → Option ℕ → Option PointValue
+point_in c bits counts thread = option_map (λ w. let raw = w.1.raw in record {
   instruction = facts_of c (instruction_pointer_in raw);
   registers = register_facts c raw;
   code = code_at c.space.memory (instruction_pointer_in raw);
   words = words_from w.0 (stack_pointer_in raw) 16;
   flags = flags_of raw;
   set_flags = set_flags raw;
-}) (option_and_then (walked_at c bits) thread)
+}) (option_and_then (walked_at c bits counts) thread)

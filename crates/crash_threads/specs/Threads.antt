@@ -25,7 +25,7 @@ use Rattle.crash_streams.specs.Contents.{ContentsValue}
 use Rattle.crash_threads.specs.declared.contexts.ContextOrigin.TheVariants.{OfException}
 use Rattle.crash_threads.specs.Contexts.{ContextValue, context_at, context_by, context_of, found_in}
 use Rattle.crash_threads.specs.Contexts.{named_bytes, of_origin, problem_in, system_of}
-use Rattle.crash_threads.specs.Counting.{counting_exception}
+use Rattle.crash_threads.specs.Counting.{counted, counting_exception}
 use Rattle.crash_threads.specs.Frames.{CrashWalkValue, code_bits_in, crash_walk_of, exception_walked}
 use Rattle.crash_threads.specs.Frames.{thread_walked, walk_from}
 use Rattle.crash_threads.specs.Last.{last_index}
@@ -172,9 +172,9 @@ abbrev pub extra_walked : ContentsValue → ℕ → Option Exception
     → Option (StackValue × MinidumpContext)
 extra_walked c bits e = option_and_then (exception_walked c bits) (unlisted c e)
 
--- those of the thread of an index, by the exception that counts: of the list, or the one after it
-abbrev pub walked_at : ContentsValue → ℕ → ℕ → Option (StackValue × MinidumpContext)
-walked_at c bits index = option_map_or (thread_walked c bits (counting_exception c))
-    (slice_get (entries_in c.threads.threads) index)
-    (if index == length (entries_in c.threads.threads) then extra_walked c bits (counting_exception c)
-    else None)
+-- those of the thread of an index, where the exception of another index counts: of the list, or the one after it
+abbrev pub walked_at : ContentsValue → ℕ → Option ℕ → ℕ → Option (StackValue × MinidumpContext)
+walked_at c bits counts index =
+    let e = counted c.threads.exceptions counts in
+    option_map_or (thread_walked c bits e) (slice_get (entries_in c.threads.threads) index)
+    (if index == length (entries_in c.threads.threads) then extra_walked c bits e else None)

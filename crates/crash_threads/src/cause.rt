@@ -286,8 +286,18 @@ pub(crate) fn counting_exception<'l, 'a>(
     ensures { option_map exception_stream.value (option_copied result)
         ≡ counting_exception (contents_of contents.now) }
 {
-    let exceptions = contents.threads.exceptions.as_slice();
-    exceptions.get(counting(exceptions)?)?.as_ref().ok()
+    exception_at(contents, counting(contents.threads.exceptions.as_slice()))
+}
+
+// Returns the exception of an index, if it can be read.
+pub(crate) fn exception_at<'l, 'a>(
+    contents: &'l Contents<'a>,
+    index: Option<usize>,
+) -> Option<&'l MinidumpException<'a>>
+    ensures { option_map exception_stream.value (option_copied result)
+        ≡ counted (contents_of contents.now).threads.exceptions index }
+{
+    contents.threads.exceptions.get(index?)?.as_ref().ok()
 }
 
 // Returns the index of the exception that counts: the last whose code isn't 0, else the last that can

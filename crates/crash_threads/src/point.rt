@@ -53,20 +53,22 @@ pub struct StackWord {
 }
 
 /// Returns where the thread of an index stands, or `None` if it has no walk, or there is no such thread.
-/// Of a return address the low `code_bits` bits are its address.
+/// Of a return address the low `code_bits` bits are its address, and `counts` is the index of the
+/// exception that counts.
 pub fn point_of<'a>(
     alloc: Global,
     contents: &Contents<'a>,
     code_bits: u32,
+    counts: Option<usize>,
     thread: Option<usize>,
 ) -> Result<Option<CrashPoint<'a>>, AllocError>
     ensures { IfOk result (λ point. option_map point_of point
-        ≡ point_in (contents_of contents.now) code_bits thread) }
+        ≡ point_in (contents_of contents.now) code_bits counts thread) }
 {
     let Some(thread) = thread else {
         return Ok(None);
     };
-    let Some((stack, context)) = walked_at(contents, code_bits, thread) else {
+    let Some((stack, context)) = walked_at(contents, code_bits, counts, thread) else {
         return Ok(None);
     };
     let instruction = context.get_instruction_pointer();

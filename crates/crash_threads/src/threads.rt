@@ -9,7 +9,7 @@ ghost use Rattle.crash_threads.specs.Threads.{all_threads, crashed_thread, crash
 ghost use Rattle.crash_threads.specs.Threads.{extra_walked, last_error_in, name_in, short_context, thread_in};
 ghost use Rattle.crash_threads.specs.Threads.{thread_value, threads_in, threads_of, unlisted, walked_at};
 
-use crate::cause::counting_exception;
+use crate::cause::{counting_exception, exception_at};
 use crate::contexts::{
     ContextOrigin, ContextProblem, CrashContext, ShortContext, context_at, found_context,
     named_bytes, problem_in, registers_of,
@@ -235,15 +235,18 @@ fn extra<'l, 'a>(
 // ---- how they are walked
 
 /// Returns the stack and the context by which the thread of an index is walked, or `None` if it has no
-/// walk, or there is no such thread. Of a return address the low `code_bits` bits are its address.
+/// walk, or there is no such thread. Of a return address the low `code_bits` bits are its address, and
+/// `counts` is the index of the exception that counts.
 pub fn walked_at<'l, 'a>(
     contents: &'l Contents<'a>,
     code_bits: u32,
+    counts: Option<usize>,
     index: usize,
 ) -> Option<(Stack<'l, 'a>, MinidumpContext)>
-    ensures { option_map walked_of result ≡ walked_at (contents_of contents.now) code_bits index }
+    ensures { option_map walked_of result
+        ≡ walked_at (contents_of contents.now) code_bits counts index }
 {
-    let exception = counting_exception(contents);
+    let exception = exception_at(contents, counts);
     let threads = entries_of(&contents.threads.threads);
     match threads.get(index) {
         Some(thread) => walked_thread(contents, code_bits, exception, thread),

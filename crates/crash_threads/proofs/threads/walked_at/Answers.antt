@@ -11,7 +11,7 @@ returns-in-Some c =
     let threads = c.entries_of-threads.result.now in
     let thread = c.in-Some.thread.now in
     let found = slice_get_read threads (length threads) c.args.index thread refl c.in-Some.ensures.lookup.3.0 c.in-Some.ensures.lookup.1 in
-    rw (← c.entries_of-threads.ensures, slice_get-map thread_of threads c.args.index, found, ← c.counting_exception-exception.ensures) c.walked_thread.ensures
+    rw (← c.entries_of-threads.ensures, slice_get-map thread_of threads c.args.index, found, ← c.exception_at-exception.ensures) c.walked_thread.ensures
 
 pub returns-in-None : goal.returns-in-None
 returns-in-None c =
@@ -25,7 +25,7 @@ returns-in-None c =
       none,
       length-map threads thread_of,
       same,
-      ← c.counting_exception-exception.ensures,
+      ← c.exception_at-exception.ensures,
     )
     c.extra_walked.ensures
 
