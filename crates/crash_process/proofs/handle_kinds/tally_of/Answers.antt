@@ -1,53 +1,55 @@
 -- One handle more, and the end: a table that has each name of a type with its number is that of the definition.
-use Rattle.std.proofs.Common.{◌≡◌, ◌∙◌, ◌+◌, ◌≤◌, ℕ, Bool, false, ◌||◌, cond, Less, List, [], ◌∷◌, Option, Some, None, ap, length, map, refl, sym, take, arith, rules}
+use Rattle.std.proofs.Common.{◌≡◌, ◌∙◌, ◌+◌, ◌<◌, ℕ, Bool, false, ◌||◌, cond, Less, List, [], ◌∷◌, Option, ap, get_or, length, map, refl, sym, arith, rules}
 use Rattle.std.specs.BTreeMap.{BTreeMap, IsOrdered, get_by, is_at}
+use Rattle.std.specs.Cmp.{on_total}
 use Rattle.std.specs.Cmp.Lexicographic.{slice_cmp}
-use Rattle.std.specs.FinMap.{find}
-use Rattle.std.specs.List.{AllByRecursion, cons_option, filter_map, list_any}
+use Rattle.std.specs.List.{AllByRecursion, cons_option, list_any}
 use Rattle.std.specs.List.Sorted.{IsStrictlySortedBy}
-use Rattle.std.specs.Map.{keys_of, lookup}
+use Rattle.std.specs.Map.{keys_of}
 use Rattle.std.specs.Option.{option_map_or}
-use Rattle.std.specs.Ordering.{eq_by_cmp, is_eq, nat_cmp}
+use Rattle.std.specs.Ordering.{eq_by_cmp, nat_cmp}
 use Rattle.std.specs.Prelude.{bytes_eq, count_by, is_some, unwrap_or}
 use Rattle.std.proofs.lemmas.Cmp.{nat_list_cmp_total}
 use Rattle.std.proofs.lemmas.List.{take_all, length-take-le}
+use Rattle.std.proofs.lemmas.List.Elements.{recursion_from_All}
 use Rattle.std.proofs.lemmas.List.Sums.{sum_by-cons, count_by-le-length}
+use Rattle.std.proofs.lemmas.Map.Entries.{btree_map_get_place}
 use Rattle.std.proofs.lemmas.Map.Lookups.{exact_bytes}
+use Rattle.std.proofs.lemmas.Map.Made.{is_some-lookup}
 use Rattle.std.proofs.lemmas.Map.Text.{is_eq-slice_cmp}
+use Rattle.std.proofs.lemmas.Option.{slice_get-get_or}
 use denote.Ref.{Bor}
 use Rattle.minidump.specs.declared.MinidumpHandleDescriptor.{MinidumpHandleDescriptor}
 use Rattle.minidump.specs.Below.Records.Handles.{handle_of}
-use Rattle.crash_process.specs.HandleKinds.{counts, has_type, tally}
-use Rattle.crash_process.proofs.SortedEntries.{entries_are, found}
+use Rattle.crash_process.specs.HandleKinds.{has_type, tally, type_names}
+use Rattle.crash_process.proofs.Ascending.{keys_ascend}
 use Rattle.std.proofs.lemmas.Grind.{text_counts, text_groups}
 use Rattle.crash_process.proofs.handle_kinds.tally_of.Goals as goal
 
 abbrev Text : Type 0
 Text = Bor (List ℕ)
 
-abbrev pair_of : Text × ℕ → List ℕ × ℕ
-pair_of e = (e.0.now, e.1)
-
 -- ---- the keys of a table, by their bytes
 
-above : (x : Text) (es : List (Text × ℕ)) → AllByRecursion (λ (y : Text). slice_cmp nat_cmp x.now y.now ≡ Less) (keys_of es)
-    → AllByRecursion (λ y. slice_cmp nat_cmp x.now y ≡ Less) (keys_of (map pair_of es))
+above : (x : Text) (ks : List Text) → AllByRecursion (λ (y : Text). slice_cmp nat_cmp x.now y.now ≡ Less) ks
+    → AllByRecursion (λ y. slice_cmp nat_cmp x.now y ≡ Less) (map (λ k. k.now) ks)
 above x [] h = tt
-above x (e ∷ es) h = (h.0, above x es h.1)
+above x (k ∷ ks) h = (h.0, above x ks h.1)
 
-ascending : (es : List (Text × ℕ)) → IsStrictlySortedBy (λ (x y : Text). slice_cmp nat_cmp x.now y.now) (keys_of es)
-    → IsStrictlySortedBy (slice_cmp nat_cmp) (keys_of (map pair_of es))
+rises : (ks : List Text) → IsStrictlySortedBy (λ (x y : Text). slice_cmp nat_cmp x.now y.now) ks → IsStrictlySortedBy (slice_cmp nat_cmp) (map (λ k. k.now) ks)
 unfolding IsStrictlySortedBy
-ascending [] h = tt
-ascending (e ∷ es) h = (above e.0 es h.0, ascending es h.1)
+rises [] h = tt
+rises (k ∷ ks) h = (above k ks h.0, rises ks h.1)
 
-looked_up : (key : List ℕ) (es : List (Text × ℕ))
-    → find (slice_cmp nat_cmp) key (map pair_of es) ≡ lookup (is_at (λ (k : Text). slice_cmp nat_cmp key k.now)) es
-looked_up key [] = refl
-looked_up key (e ∷ es) = ap (cond (is_eq (slice_cmp nat_cmp key e.0.now)) (Some e.1)) (looked_up key es)
+any_key : (key : List ℕ) (ks : List Text) → list_any (is_at (slice_cmp nat_cmp key)) (map (λ k. k.now) ks) ≡ list_any (is_at (λ (k : Text). slice_cmp nat_cmp key k.now)) ks
+any_key key [] = refl
+any_key key (k ∷ ks) = ap (λ b. is_at (slice_cmp nat_cmp key) k.now || b) (any_key key ks)
 
-by_parts : (o : Option ℕ) (b : Bool) (n : ℕ) → is_some o ≡ b → unwrap_or o 0 ≡ n → o ≡ cond b (Some n) None
-by_parts o b n is same = grind arith
+-- each key with its number
+numbered : (number : List ℕ → ℕ) (es : List (Text × ℕ)) → AllByRecursion (λ e. e.1 ≡ number e.0.now) es
+    → map (λ e. (e.0.now, e.1)) es ≡ map {B = List ℕ × ℕ} (λ name. (name, number name)) (map (λ k. k.now) (keys_of es))
+numbered number [] h = refl
+numbered number (e ∷ es) h = λ i. (e.0.now, h.0 i) ∷ numbered number es h.1 i
 
 -- ---- the handles of descriptors
 
@@ -56,7 +58,7 @@ next_name : (key : List ℕ) (name : Option (List ℕ)) (names : List (List ℕ)
 next_name key name names r is = grind (arith, is_eq-slice_cmp)
 
 any_named : (key : List ℕ) (hs : List MinidumpHandleDescriptor)
-    → list_any (eq_by_cmp (slice_cmp nat_cmp) key) (filter_map (λ h. h.type_name) (map handle_of hs)) ≡ list_any (λ h. has_type key (handle_of h)) hs
+    → list_any (eq_by_cmp (slice_cmp nat_cmp) key) (type_names (map handle_of hs)) ≡ list_any (λ h. has_type key (handle_of h)) hs
 any_named key [] = refl
 any_named key (h ∷ hs) = next_name key (handle_of h).type_name _ _ (any_named key hs)
 
@@ -68,23 +70,24 @@ number_is key (h ∷ hs) =
     ∙ ap (λ n. cond (has_type key (handle_of h)) 1 0 + n) (number_is key hs)
     ∙ sym (sum_by-cons (λ h. cond (has_type key h) 1 0) (handle_of h) (map handle_of hs))
 
-tallied : (hs : List MinidumpHandleDescriptor) (i : ℕ) (table : BTreeMap Text ℕ) → length hs ≤ i
+tallied : (hs : List MinidumpHandleDescriptor) (table : BTreeMap Text ℕ)
     → IsOrdered (λ (x y : Text). slice_cmp nat_cmp x.now y.now) table
-    → ((q : List ℕ) → is_some (get_by (λ (k : Text). slice_cmp nat_cmp q k.now) table) ≡ list_any (λ h. has_type q (handle_of h)) (take i hs))
-    → ((q : List ℕ) → unwrap_or (get_by (λ (k : Text). slice_cmp nat_cmp q k.now) table) 0 ≡ count_by (λ h. has_type q (handle_of h)) (take i hs))
-    → map pair_of table.entries ≡ tally (map handle_of hs)
-unfolding tally
-tallied hs i table past ordered present counted =
+    → ((q : List ℕ) → is_some (get_by (λ (k : Text). slice_cmp nat_cmp q k.now) table) ≡ list_any (λ h. has_type q (handle_of h)) hs)
+    → ((q : List ℕ) → unwrap_or (get_by (λ (k : Text). slice_cmp nat_cmp q k.now) table) 0 ≡ count_by (λ h. has_type q (handle_of h)) hs)
+    → map (λ e. (e.0.now, e.1)) table.entries ≡ tally (map handle_of hs)
+tallied hs table ordered present counted =
     let handles = map handle_of hs in
-    let names : List (List ℕ) = filter_map (λ h. h.type_name) handles in
     let number : List ℕ → ℕ = λ name. count_by (has_type name) handles in
-    let all = take_all i hs past in
-    entries_are (slice_cmp nat_cmp) nat_list_cmp_total exact_bytes (map pair_of table.entries) (counts handles) (ascending table.entries ordered)
-    (λ q. looked_up q table.entries
-    ∙ by_parts (get_by (λ (k : Text). slice_cmp nat_cmp q k.now) table) (list_any (eq_by_cmp (slice_cmp nat_cmp) q) names) (number q)
-    (present q ∙ ap (list_any (λ h. has_type q (handle_of h))) all ∙ sym (any_named q hs))
-    (counted q ∙ ap (count_by (λ h. has_type q (handle_of h))) all ∙ number_is q hs)
-    ∙ sym (found (slice_cmp nat_cmp) exact_bytes number q names))
+    let es = table.entries in
+    let placed = λ (i : ℕ) (d : Text × ℕ) (within : i < length es).
+    let e = get_or es i d in
+    ap (λ o. unwrap_or o 0) (sym (btree_map_get_place (on_total (λ (k : Text). k.now) nat_list_cmp_total) table i e.0 e.1 ordered (slice_get-get_or es i d within)))
+    ∙ counted e.0.now ∙ number_is e.0.now hs in
+    numbered number es (recursion_from_All (λ e. e.1 ≡ number e.0.now) es placed)
+    ∙ ap (map (λ name. (name, number name))) (keys_ascend (slice_cmp nat_cmp) nat_list_cmp_total exact_bytes (type_names handles) (record { keys = map (λ k. k.now) (keys_of es) }) (
+      λ q. any_key q (keys_of es) ∙ sym (is_some-lookup (is_at (λ (k : Text). slice_cmp nat_cmp q k.now)) es) ∙ present q ∙ sym (any_named q hs),
+      rises (keys_of es) ordered,
+    ))
 
 pub overflow_add-table : goal.overflow_add-table
 overflow_add-table c = grind (arith, text_counts, count_by-le-length, length-take-le)
@@ -98,5 +101,7 @@ loop-handle-preserved c = record {
 
 pub returns : goal.returns
 returns c =
-    tallied c.args.handles.now c.loop-handle.handle-index c.loop-handle.table c.loop-handle-test.false
-    c.loop-handle.invariant.ordered c.loop-handle.invariant.present c.loop-handle.invariant.counted
+    let all = take_all c.loop-handle.handle-index c.args.handles.now c.loop-handle-test.false in
+    tallied c.args.handles.now c.loop-handle.table c.loop-handle.invariant.ordered
+    (λ q. c.loop-handle.invariant.present q ∙ ap (list_any (λ h. has_type q (handle_of h))) all)
+    (λ q. c.loop-handle.invariant.counted q ∙ ap (count_by (λ h. has_type q (handle_of h))) all)
