@@ -33,7 +33,7 @@ abbrev pub tally : List Handle → List (List ℕ × ℕ)
 tally handles = map (λ name. (name, count_by (has_type name) handles))
     (ascending (slice_cmp nat_cmp) (type_names handles))
 
--- a table has each of these names once, ascending, with the number of handles that have it
+-- a table has exactly these names, each once, ascending, with the number of handles that have it
 pub record IsTally (handles : List Handle) (table : List (List ℕ × ℕ)) : Type 0 where
   pub names : IsAscending (slice_cmp nat_cmp) (type_names handles) (keys_of table)
   pub numbers : All (λ e. e.1 ≡ count_by (has_type e.0) handles) table
