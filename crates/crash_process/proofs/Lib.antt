@@ -1,3 +1,3 @@
 -- The lemmas of this crate.
+pub mod Ascending
 pub mod Found
-pub mod SortedEntries

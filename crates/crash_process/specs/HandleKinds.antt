@@ -1,12 +1,14 @@
 -- The kinds of the handles of a process, by the names of their types.
-use Rattle.std.specs.Prelude.{ℕ, Bool, false, List, [], bytes_eq, count_by, map, Result, Ok, Err, string_bytes}
+use Rattle.std.specs.Prelude.{◌≡◌, ℕ, All, Bool, false, List, [], bytes_eq, count_by, map, Result, Ok, Err}
+use Rattle.std.specs.Prelude.{string_bytes}
 use Rattle.std.specs.Cmp.Lexicographic.{slice_cmp}
-use Rattle.std.specs.FinMap.{entries, from_entries}
 use Rattle.std.specs.List.{filter_map}
+use Rattle.std.specs.Map.{keys_of}
 use Rattle.std.specs.Option.{option_map_or}
 use Rattle.std.specs.Ordering.{nat_cmp}
 use Rattle.minidump.specs.declared.Error.{Error}
 use Rattle.minidump.specs.Below.Records.Handles.{Handle}
+use Rattle.crash_process.specs.Ascending.{IsAscending, ascending}
 use Rattle.crash_process.specs.declared.handle_kinds.HandleKind.{HandleKind}
 
 -- a kind: the name of a type, and how many handles have it
@@ -22,14 +24,19 @@ kind_of k = record { type_name = string_bytes k.type_name; count = k.count }
 abbrev pub has_type : List ℕ → Handle → Bool
 has_type name h = option_map_or (bytes_eq name) h.type_name false
 
--- each name of a type with the number of handles that have it
-abbrev pub counts : List Handle → List (List ℕ × ℕ)
-counts handles = map (λ name. (name, count_by (has_type name) handles))
-    (filter_map (λ h. h.type_name) handles)
+-- the name of the type of each handle that has one
+abbrev pub type_names : List Handle → List (List ℕ)
+type_names handles = filter_map (λ h. h.type_name) handles
 
--- the same once for each name, ascending by their bytes: the entries of a finite map
-unfoldable pub tally : List Handle → List (List ℕ × ℕ)
-tally handles = entries (from_entries {R = slice_cmp nat_cmp} (counts handles))
+-- each of these names once, ascending by its bytes, with the number of handles that have it
+abbrev pub tally : List Handle → List (List ℕ × ℕ)
+tally handles = map (λ name. (name, count_by (has_type name) handles))
+    (ascending (slice_cmp nat_cmp) (type_names handles))
+
+-- a table has exactly these names, each once, ascending, with the number of handles that have it
+pub record IsTally (handles : List Handle) (table : List (List ℕ × ℕ)) : Type 0 where
+  pub names : IsAscending (slice_cmp nat_cmp) (type_names handles) (keys_of table)
+  pub numbers : All (λ e. e.1 ≡ count_by (has_type e.0) handles) table
 
 -- the kind of a name and its number
 abbrev pub kind_by : List ℕ × ℕ → KindValue

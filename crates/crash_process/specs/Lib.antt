@@ -1,4 +1,5 @@
 -- The definitions that the contracts cite.
+pub mod Ascending
 pub mod FileName
 pub mod Directory
 pub mod Release

@@ -1,8 +1,7 @@
 -- The modules of a process: where each was, and what symbol tools ask of it.
-use Rattle.std.specs.Prelude.{ℕ, ◌+◌, ◌^◌, List, [], is_none, map, nat_lt, Option, Some, None}
+use Rattle.std.specs.Prelude.{◌≡◌, ℕ, ◌+◌, ◌^◌, List, [], is_none, map, nat_lt, Option, Some, None}
 use Rattle.std.specs.Prelude.{if◌then◌else◌, string_bytes, unwrap_or}
 use Rattle.std.specs.declared.cmp.Ordering.{Ordering}
-use Rattle.std.specs.FinMap.{from_entries, values}
 use Rattle.std.specs.List.{enumerate_from, filter_map}
 use Rattle.std.specs.Option.{option_map}
 use Rattle.std.specs.Ordering.{nat_cmp, ordering_then}
@@ -20,6 +19,7 @@ use Rattle.minidump.specs.Below.Modules.UnloadedModule.{UnloadedValue}
 use Rattle.minidump.specs.Below.System.Framing.{plain_list}
 use Rattle.minidump.specs.Below.System.Reads.{and_then}
 use Rattle.minidump.specs.Dump.{Dump, raw_stream}
+use Rattle.crash_process.specs.Ascending.{IsAscending, ascending}
 use Rattle.crash_process.specs.FileName.{file_name}
 use Rattle.crash_process.specs.declared.modules.CrashModule.{CrashModule}
 use Rattle.crash_process.specs.declared.modules.CrashModules.{CrashModules}
@@ -131,10 +131,14 @@ pair_cmp p q = ordering_then (nat_cmp p.0 q.0) (nat_cmp p.1 q.1)
 abbrev pub bases_of : List LoadedValue → List (ℕ × ℕ)
 bases_of modules = map (λ p. (p.1.base, p.0)) (enumerate_from 0 modules)
 
--- the indices of modules, ascending by base address, then by index. A finite map has its keys in their
--- order: here each pair of a base and an index, with the index as its value
-unfoldable pub by_address : List LoadedValue → List ℕ
-by_address modules = values (from_entries {R = pair_cmp} (map (λ p. (p, p.1)) (bases_of modules)))
+-- the indices of modules, ascending by base address, then by index
+abbrev pub by_address : List LoadedValue → List ℕ
+by_address modules = map (λ p. p.1) (ascending pair_cmp (bases_of modules))
+
+-- indices are those of the modules by address: of the pairs of their bases, ascending
+abbrev pub IsByAddress : List LoadedValue → List ℕ → Type 0
+IsByAddress modules indices = (pairs : List (ℕ × ℕ)) × IsAscending pair_cmp (bases_of modules) pairs
+    × (indices ≡ map (λ p. p.1) pairs)
 
 -- ---- the entries that can't be read. The format has no list then: one such entry makes it an error
 

@@ -17,6 +17,10 @@
 //!   `modules_in`: [`directory_of`], [`process_of`], [`modules_of`].
 //! - The entry of the exception has the error of its stream, though all exceptions are read at
 //!   once: [`laws`].
+//! - [`CrashModules::by_address`] has the index of each module once, ascending by base address, then
+//!   by index: [`laws::modules_are_by_address`].
+//! - [`CrashProcess::handle_kinds`] has each name of a type that a handle has once, ascending by its
+//!   bytes, with the number of handles that have it: [`laws::handles_are_counted_by_type`].
 //! - The other calls have no laws. The contract of each equates its result with the definition that it
 //!   names.
 #![tactic(auto)]

@@ -13,9 +13,6 @@ use Rattle.crash_process.proofs.modules.file_name.Goals as goal
 abbrev is_separator : ℕ → Bool
 is_separator = char_set_contains (0x2f ∷ 0x5c ∷ [])
 
-far : (c : ℕ) → 128 ≤ c → is_separator c ≡ false
-far c high = grind (arith, nat_tests)
-
 -- no byte is a separator where no character is one
 no_separator : (xs : List ℕ) (k : ℕ) → NoCharPasses is_separator xs → k < length xs → is_separator (get_or xs k 0) ≡ false
 no_separator xs k none within = grind (arith, nat_tests, NoCharPasses-byte is_separator xs k none within)
