@@ -1,4 +1,4 @@
-ghost use Rattle.std.specs.Prelude.{◌≡◌, ⊤, IfOk, IsOkUnless, Ok};
+ghost use Rattle.std.specs.Prelude.{◌≡◌, ⊤, IfOk, IsOkUnless};
 ghost use Rattle.std.specs.Option.{option_map};
 ghost use Rattle.minidump.specs.Below.Contexts.Context.{map_ok};
 ghost use Rattle.minidump.specs.Below.Format.Answer.{Gives};
@@ -58,7 +58,7 @@ impl<'a> Crash<'a> {
         ensures { Gives crash_of ⊤ result (crash_in bytes.now names.now scan) }
     {
         let dump = Minidump::read(alloc, bytes)?;
-        crash_of_dump(alloc, bytes, &dump, names, scan)
+        crash_of_dump(alloc, &dump, names, scan)
     }
 
     /// Returns the stack and the context by which the thread of an index in `threads.threads` is
@@ -93,18 +93,16 @@ pub fn status_of(crash: &Result<Crash<'_>, Error>) -> u8
 // Reads the crash of a dump.
 fn crash_of_dump<'a>(
     alloc: Global,
-    file: &[u8],
     dump: &Minidump<'a>,
     names: &CodeNames<'_>,
     scan: usize,
 ) -> Result<Crash<'a>, Error>
-    requires { dump_in file.now ≡ Ok (dump_of dump.now) }
     ensures crash { IfOk result (λ c. crash_of c
         ≡ crash_by names.now scan (dump_of dump.now) (contents_in (dump_of dump.now))) }
     ensures memory { IsOkUnless result Error.OutOfMemory }
 {
     let contents = read_contents(alloc, dump)?;
-    let directory = directory_of(alloc, file, dump, &contents)?;
+    let directory = directory_of(alloc, dump, &contents)?;
     let process = process_of(alloc, dump, &contents)?;
     let cause = cause_of(alloc, &contents, names)?;
     let threads = threads_of(alloc, &contents, names, scan)?;
@@ -115,7 +113,7 @@ fn crash_of_dump<'a>(
         cause.counts,
         threads.crashing,
     )?;
-    let modules = modules_of(alloc, file, dump, &contents)?;
+    let modules = modules_of(alloc, dump, &contents)?;
     let damage = damage_of(alloc, &contents, &directory, &process, &cause, &threads)?;
     Ok(Crash {
         contents,

@@ -12,8 +12,7 @@ use Rattle.minidump.specs.declared.format.MINIDUMP_STREAM_TYPE.{MINIDUMP_STREAM_
 use Rattle.minidump.specs.declared.format.MINIDUMP_STREAM_TYPE.TheVariants as stream
 use Rattle.minidump.specs.Below.Format.Header.{located}
 use Rattle.minidump.specs.Below.Format.StreamType.{stream_type_of}
-use Rattle.minidump.specs.Directory.{directory}
-use Rattle.minidump.specs.Dump.{Dump, raw_stream, stream_of, streams_of}
+use Rattle.minidump.specs.Dump.{Dump, all_entries, raw_stream, stream_of, streams_of}
 use Rattle.minidump.specs.Exception.{Exception, exception_stream}
 use Rattle.minidump.specs.Exceptions.{exceptions_in}
 use Rattle.minidump.specs.Streams.{entries_of}
@@ -95,10 +94,6 @@ entry_in d c e = record {
 -- the streams, ascending by type
 abbrev pub entries_in : Dump → ContentsValue → List StreamEntry
 entries_in d c = map (entry_in d c) (entries_of (streams_of d))
-
--- all entries of the directory, also those that don't decide
-abbrev pub all_entries : Dump → List MINIDUMP_DIRECTORY
-all_entries d = directory d.order d.file d.header
 
 -- an entry is lost: its bytes are not all in the file, but those of the stream of its type are, which
 -- another entry decides. Of exceptions each entry is read

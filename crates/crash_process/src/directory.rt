@@ -1,13 +1,11 @@
-ghost use Rattle.std.specs.Prelude.{◌≡◌, ◌^◌, ◌<◌, IfOk, Ok, length};
-ghost use Rattle.minidump.specs.Dump.{dump_in};
+ghost use Rattle.std.specs.Prelude.{◌≡◌, IfOk};
 ghost use Rattle.minidump.specs.DumpValue.{dump_of};
 ghost use Rattle.crash_streams.specs.Contents.{contents_of};
-ghost use Rattle.crash_process.specs.Directory.{all_entries, directory_in, directory_of, error_of_number};
+ghost use Rattle.crash_process.specs.Directory.{directory_in, directory_of, error_of_number};
 ghost use Rattle.crash_process.specs.Directory.{outside_in, raw_error};
 
 use crash_streams::{Contents, error_of};
-use minidump::format::{MINIDUMP_DIRECTORY, MINIDUMP_STREAM_TYPE};
-use minidump::own_streams::Entries;
+use minidump::format::MINIDUMP_STREAM_TYPE;
 use minidump::{Error, Minidump, MinidumpException, MinidumpStream, Source, Steps};
 use std::alloc::{AllocError, Global};
 
@@ -41,11 +39,9 @@ pub struct StreamEntry {
 /// Returns what the header and the directory of a dump say.
 pub fn directory_of(
     alloc: Global,
-    file: &[u8],
     dump: &Minidump<'_>,
     contents: &Contents<'_>,
 ) -> Result<CrashDirectory, AllocError>
-    requires { dump_in file.now ≡ Ok (dump_of dump.now) }
     ensures { IfOk result (λ directory. directory_of directory
         ≡ directory_in (dump_of dump.now) (contents_of contents.now)) }
 {
@@ -61,7 +57,7 @@ pub fn directory_of(
     Ok(CrashDirectory {
         written: dump.header.time_date_stamp,
         entries,
-        entries_outside: outside_of(dump, file),
+        entries_outside: outside_of(dump),
     })
 }
 
@@ -127,36 +123,18 @@ fn raw_error(dump: &Minidump<'_>, number: u32) -> Option<Error>
 
 // Returns the number of entries that are lost: their bytes are not all in the file, but those of the
 // entry that decides their type are. Exceptions don't count, since each is read.
-fn outside_of(dump: &Minidump<'_>, file: &[u8]) -> u64
-    requires { dump_in file.now ≡ Ok (dump_of dump.now) }
+fn outside_of(dump: &Minidump<'_>) -> u64
     ensures { result ≡ outside_in (dump_of dump.now) }
 {
     let mut count = 0;
-    let entries = all_entries(dump, file);
+    let (file, entries) = (Source::new(dump.bytes()), dump.all_entries());
     for index in 0..entries.len() {
         let entry = entries.read(index, &mut Steps::new());
-        let bytes = entry
-            .location
-            .bytes_in(Source::new(file), &mut Steps::new());
+        let bytes = entry.location.bytes_in(file, &mut Steps::new());
         let is_lost = bytes.is_none()
             && raw_error(dump, entry.stream_type).is_none()
             && entry.stream_type != MinidumpException::number_of_type();
         count += u64::from(is_lost);
     }
     count
-}
-
-// Returns all entries of the directory, which a file that is a dump holds.
-fn all_entries<'a>(dump: &Minidump<'_>, file: &'a [u8]) -> Entries<'a, MINIDUMP_DIRECTORY>
-    requires { dump_in file.now ≡ Ok (dump_of dump.now) }
-    ensures entries { result ≡ all_entries (dump_of dump.now) }
-    ensures few { length result < 2 ^ 32 }
-{
-    let count = dump.header.stream_count as u64;
-    let start = if count == 0 {
-        0
-    } else {
-        dump.header.stream_directory_rva as u64
-    };
-    Source::new(file).entries(start, count, dump.endian)
 }

@@ -1,9 +1,8 @@
-ghost use Rattle.std.specs.Prelude.{◌≡◌, IfOk, IsOkUnless, Ok, map, string_bytes};
+ghost use Rattle.std.specs.Prelude.{◌≡◌, IfOk, IsOkUnless, map, string_bytes};
 ghost use Rattle.std.specs.Option.{option_map};
 ghost use Rattle.minidump.specs.Below.Modules.DebugId.{breakpad_text};
 ghost use Rattle.minidump.specs.Below.Modules.Module.{module_of};
 ghost use Rattle.minidump.specs.Below.Modules.UnloadedModule.{unloaded_of};
-ghost use Rattle.minidump.specs.Dump.{dump_in};
 ghost use Rattle.minidump.specs.DumpValue.{dump_of};
 ghost use Rattle.crash_streams.specs.Contents.{contents_of};
 ghost use Rattle.crash_process.specs.FileName.{file_name};
@@ -71,18 +70,16 @@ pub struct UnloadedModule {
 /// Returns the modules of a process.
 pub fn modules_of(
     alloc: Global,
-    file: &[u8],
     dump: &Minidump<'_>,
     contents: &Contents<'_>,
 ) -> Result<CrashModules, Error>
-    requires { dump_in file.now ≡ Ok (dump_of dump.now) }
     ensures modules { IfOk result (λ modules. modules_of modules
         ≡ modules_in (dump_of dump.now) (contents_of contents.now)) }
     ensures memory { IsOkUnless result Error.OutOfMemory }
 {
     let loaded = loaded_of(alloc, contents.space.modules.as_slice())?;
     let by_address = by_address(alloc, loaded.as_slice())?;
-    let unreadable = unreadable_of(alloc, file, dump, contents.space.modules_error)?;
+    let unreadable = unreadable_of(alloc, dump, contents.space.modules_error)?;
     let unloaded = unloaded_of(alloc, unloaded_entries(&contents.space.unloaded))?;
     Ok(CrashModules {
         loaded,

@@ -1,6 +1,5 @@
 //! The entries of the list of modules that can't be read.
-ghost use Rattle.std.specs.Prelude.{◌≡◌, [], IfOk, IsOkUnless, Ok, unwrap_or};
-ghost use Rattle.minidump.specs.Dump.{dump_in};
+ghost use Rattle.std.specs.Prelude.{◌≡◌, [], IfOk, IsOkUnless, unwrap_or};
 ghost use Rattle.minidump.specs.DumpValue.{dump_of};
 ghost use Rattle.crash_process.specs.Modules.{entries_in, part_in, unreadable_among, unreadable_by};
 
@@ -36,17 +35,15 @@ pub enum ModulePart {
 // Returns the entries of the list of modules that can't be read, if the list has an error.
 pub(crate) fn unreadable_of(
     alloc: Global,
-    file: &[u8],
     dump: &Minidump<'_>,
     error: Option<Error>,
 ) -> Result<Vec<UnreadableModule>, Error>
-    requires { dump_in file.now ≡ Ok (dump_of dump.now) }
     ensures modules { IfOk result (λ modules. modules.items
         ≡ unreadable_by (dump_of dump.now) error) }
     ensures memory { IsOkUnless result Error.OutOfMemory }
 {
     match (error, entries_of(dump)) {
-        (Some(_), Some(entries)) => unreadable_among(alloc, file, dump.endian, &entries),
+        (Some(_), Some(entries)) => unreadable_among(alloc, dump.bytes(), dump.endian, &entries),
         _ => Ok(Vec::new(alloc)),
     }
 }

@@ -5,7 +5,6 @@ use Rattle.std.specs.List.{enumerate_from, last_or}
 use Rattle.std.specs.Option.{option_map, option_or}
 use Rattle.std.proofs.lemmas.List.{reverse-append}
 use Rattle.std.proofs.lemmas.List.Folds.{find-append}
-use Rattle.minidump_bytes.proofs.EntryLemmas.{length-entries}
 use Rattle.minidump_format.specs.declared.error.Error.TheVariants.{StreamNotFound}
 use Rattle.minidump_format.specs.declared.format.header.MINIDUMP_DIRECTORY.{MINIDUMP_DIRECTORY}
 use Rattle.minidump_format.specs.Header.{directory_entry, located}
@@ -16,7 +15,6 @@ use Rattle.minidump.specs.Exception.{exception_stream}
 use Rattle.minidump.specs.Exceptions.{exception_of_entry, exceptions_in}
 use Rattle.minidump.specs.Streams.{entries_of}
 use Rattle.minidump.proofs.ThreadLemmas.{last_seen}
-use Rattle.minidump.proofs.DirectoryLemmas.{length-with_indices}
 use Rattle.minidump.proofs.EntryLemmas.{stream_by_bytes}
 
 -- entries with indices are as many entries as there were
@@ -24,13 +22,8 @@ entries_again : (n : ℕ) (es : List MINIDUMP_DIRECTORY) → entries_of (map (λ
 entries_again n [] = refl
 entries_again n (e ∷ es) = ap (λ l. e ∷ l) (entries_again (n + 1) es)
 
-pub entries_with_indices : (es : List MINIDUMP_DIRECTORY) → entries_of (with_indices es) ≡ es
+entries_with_indices : (es : List MINIDUMP_DIRECTORY) → entries_of (with_indices es) ≡ es
 entries_with_indices es = entries_again 0 es
-
-pub as_many_entries : (d : Dump) → length (with_indices (directory d.order d.file d.header)) ≡ d.header.stream_count
-as_many_entries d =
-    length-with_indices (directory d.order d.file d.header)
-    ∙ length-entries directory_entry d.order d.file d.header.stream_directory_rva d.header.stream_count
 
 module _ {A B : Type 0} (f : A → B) (p : A → Bool) where
   with_last : (o : Option B) (found : Option A) (x : A) → option_or (option_map f found) (Some (f x)) ≡ option_or (option_map f (option_or found (Some x))) o

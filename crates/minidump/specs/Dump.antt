@@ -7,6 +7,7 @@ use Rattle.minidump_bytes.specs.declared.endian.Endian.{Endian}
 use Rattle.minidump_format.specs.declared.error.Error.{Error}
 use Rattle.minidump_format.specs.declared.error.Error.TheVariants.{MissingDirectory, OutOfMemory}
 use Rattle.minidump_format.specs.declared.error.Error.TheVariants.{StreamNotFound, StreamReadFailure}
+use Rattle.minidump_format.specs.declared.format.header.MINIDUMP_DIRECTORY.{MINIDUMP_DIRECTORY}
 use Rattle.minidump_format.specs.declared.format.header.MINIDUMP_HEADER.{MINIDUMP_HEADER}
 use Rattle.minidump_format.specs.declared.format.stream_type.MINIDUMP_STREAM_TYPE.TheVariants.{SystemInfoStream}
 use Rattle.minidump_format.specs.Header.{located}
@@ -50,9 +51,13 @@ IsDumpErrorOr memory file e = (dump_in file ≡ Err e) ⊎ ((e ≡ OutOfMemory) 
 abbrev pub IsDumpError : List ℕ → Error → Type 0
 IsDumpError file e = IsDumpErrorOr (HasEntries file) file e
 
+-- all entries of the directory, in the order of the file
+abbrev pub all_entries : Dump → List MINIDUMP_DIRECTORY
+all_entries d = directory d.order d.file d.header
+
 -- the entries that decide a type of stream, ascending by type
 abbrev pub streams_of : Dump → List DecidingEntry
-streams_of d = deciding_entries_below (2 ^ 32) (directory d.order d.file d.header)
+streams_of d = deciding_entries_below (2 ^ 32) (all_entries d)
 
 -- the bytes of a span, where it is in the file
 abbrev pub bytes_of_span : Option (List ℕ) → Result (List ℕ) Error
@@ -66,7 +71,7 @@ bytes_of_entry file (Some d) = bytes_of_span (located file d.entry.location)
 
 -- the bytes of the stream of a type: the span of its deciding entry
 abbrev pub raw_stream : ℕ → Dump → Result (List ℕ) Error
-raw_stream stream_type d = bytes_of_entry d.file (deciding_entry stream_type (directory d.order d.file d.header))
+raw_stream stream_type d = bytes_of_entry d.file (deciding_entry stream_type (all_entries d))
 
 -- what the bytes of a stream mean, or their error
 abbrev meaning_of_bytes : {V : Type 0} → Meaning V → Dump → Option System → Result (List ℕ) Error → Result V Error

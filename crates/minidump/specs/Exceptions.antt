@@ -4,8 +4,7 @@ use Rattle.minidump_format.specs.declared.error.Error.{Error}
 use Rattle.minidump_format.specs.declared.format.header.MINIDUMP_DIRECTORY.{MINIDUMP_DIRECTORY}
 use Rattle.minidump_format.specs.Header.{located}
 use Rattle.minidump_system.specs.Reads.{and_then}
-use Rattle.minidump.specs.Directory.{directory}
-use Rattle.minidump.specs.Dump.{Dump, bytes_of_span, dump_system}
+use Rattle.minidump.specs.Dump.{Dump, all_entries, bytes_of_span, dump_system}
 use Rattle.minidump.specs.Exception.{Exception, exception_stream}
 
 -- the exception of an entry of the directory, or its error
@@ -21,4 +20,4 @@ exceptions_among d es =
 
 -- all exceptions, in the order of the directory
 abbrev pub exceptions_in : Dump → List (Result Exception Error)
-exceptions_in d = exceptions_among d (directory d.order d.file d.header)
+exceptions_in d = exceptions_among d (all_entries d)

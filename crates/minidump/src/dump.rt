@@ -11,9 +11,9 @@ use crate::directory::{DecidingEntry, read_directory};
 use crate::header::read_header;
 use crate::streams::{Streams, UnimplementedStreams, UnknownStreams};
 use crate::system::read_system_info;
-use minidump_bytes::{Endian, Source, Steps};
+use minidump_bytes::{Endian, Entries, Source, Steps};
 use minidump_format::Error;
-use minidump_format::format::MINIDUMP_HEADER;
+use minidump_format::format::{MINIDUMP_DIRECTORY, MINIDUMP_HEADER};
 use minidump_system::MinidumpSystemInfo;
 use std::alloc::Global;
 
@@ -37,12 +37,13 @@ pub struct Minidump<'a> {
 }
 
 impl<'a> Minidump<'a> {
-    ghost use Rattle.std.specs.Prelude.{◌+◌, ◌≤◌, length, IfOk};
+    ghost use Rattle.std.specs.Prelude.{◌+◌, ◌<◌, ◌≤◌, ◌^◌, length, IfOk};
     ghost use Rattle.std.specs.List.{filter_map};
     ghost use Rattle.std.specs.Option.{option_copied, option_map};
     ghost use Rattle.minidump_bytes.specs.Steps.{after};
     ghost use Rattle.minidump_format.specs.Answer.{Gives};
-    ghost use Rattle.minidump.specs.Dump.{HasEntries, dump_in, dump_system, least_reads, streams_of};
+    ghost use Rattle.minidump.specs.Dump.{HasEntries, all_entries, dump_in, dump_system, least_reads};
+    ghost use Rattle.minidump.specs.Dump.{streams_of};
     ghost use Rattle.minidump.specs.DumpValue.{dump_of};
     ghost use Rattle.minidump.specs.Streams.{as_unknown, as_unimplemented, entries_of, streams_left, unknown_left};
     ghost use Rattle.minidump.specs.Streams.{unimplemented_left};
@@ -95,6 +96,28 @@ impl<'a> Minidump<'a> {
         Streams {
             entries: self.deciding_entries().iter(),
         }
+    }
+
+    /// Returns the bytes of the file.
+    pub fn bytes(&self) -> &'a [u8]
+        ensures { result.now ≡ (dump_of self.now).file }
+    {
+        self.source.bytes()
+    }
+
+    /// Returns all entries of the directory in its order, also those that don't decide a type. A
+    /// dump keeps only those that do, since few callers ask for the others.
+    pub fn all_entries(&self) -> Entries<'a, MINIDUMP_DIRECTORY>
+        ensures entries { result ≡ all_entries (dump_of self.now) }
+        ensures few { length result < 2 ^ 32 }
+    {
+        let count = self.header.stream_count as u64;
+        let start = if count == 0 {
+            0
+        } else {
+            self.header.stream_directory_rva as u64
+        };
+        self.source.entries(start, count, self.endian)
     }
 
     // Returns the system information, or `None` if its stream is missing or malformed.

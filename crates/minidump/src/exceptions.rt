@@ -1,11 +1,9 @@
-ghost use Rattle.std.specs.Prelude.{◌≡◌, ◌<◌, IfErr, IfOk, length, map};
+ghost use Rattle.std.specs.Prelude.{◌≡◌, ◌<◌, IfErr, IfOk, map};
 ghost use Rattle.minidump_context.specs.Context.{map_ok};
 ghost use Rattle.minidump.specs.DumpValue.{dump_of};
 ghost use Rattle.minidump.specs.Exception.{exception_stream};
-ghost use Rattle.minidump.specs.Exceptions.{exception_of_entry, exceptions_among, exceptions_in};
-ghost use Rattle.minidump.specs.Streams.{entries_of};
+ghost use Rattle.minidump.specs.Exceptions.{exception_of_entry, exceptions_in};
 
-use crate::directory::{DecidingEntry, read_entries};
 use crate::{Minidump, MinidumpException};
 use minidump_bytes::{Source, Steps};
 use minidump_format::Error;
@@ -18,8 +16,7 @@ impl<'a> Minidump<'a> {
     /// the directory: each the exception, or the error for which it can't be read. The last is the
     /// one that [`Minidump::get_stream`] reads.
     ///
-    /// Reads the directory anew, one read for each entry: a dump keeps only the entries that decide
-    /// a type, since few callers ask for the others. The outer error is [`Error::OutOfMemory`]
+    /// Reads the directory anew, one read for each entry. The outer error is [`Error::OutOfMemory`]
     /// alone. A directory without entries takes no memory.
     pub fn exceptions(
         &self,
@@ -30,31 +27,12 @@ impl<'a> Minidump<'a> {
         ensures memory { IfErr result
             (λ e. (e ≡ Error.OutOfMemory) × (0 < (dump_of self.now).header.stream_count)) }
     {
-        let entries = read_entries(
-            alloc,
-            self.source,
-            self.endian,
-            &self.header,
-            &mut Steps::new(),
-        )?;
-        self.exceptions_among(alloc, entries.as_slice())
-    }
-
-    // Reads the exceptions of those entries that have their type.
-    fn exceptions_among(
-        &self,
-        alloc: Global,
-        entries: &[DecidingEntry],
-    ) -> Result<Vec<Result<MinidumpException<'a>, Error>>, Error>
-        ensures means { IfOk result (λ v. map (map_ok exception_stream.value) v.items
-            ≡ exceptions_among (dump_of self.now) (entries_of entries.now)) }
-        ensures memory { IfErr result
-            (λ e. (e ≡ Error.OutOfMemory) × (0 < length entries.now)) }
-    {
+        let entries = self.all_entries();
         let mut exceptions = Vec::new(alloc);
-        for entry in entries {
-            if entry.entry.stream_type == MinidumpException::STREAM_TYPE {
-                exceptions.push(self.exception_of_entry(alloc, &entry.entry))?;
+        for index in 0..entries.len() {
+            let entry = entries.read(index, &mut Steps::new());
+            if entry.stream_type == MinidumpException::STREAM_TYPE {
+                exceptions.push(self.exception_of_entry(alloc, &entry))?;
             }
         }
         Ok(exceptions)

@@ -19,7 +19,7 @@ use Rattle.crash.proofs.crash.crash_of_dump.Goals as goal
 parts_are_crash : (names : Lists) (scan : ℕ) (d : Dump) (c : ContentsValue) (directory : DirectoryValue) (process : ProcessFacts) (cause : CauseValue)
     (threads : ThreadsValue) (point : Option PointValue) (modules : ModulesValue) (damage : List Damage) → directory ≡ directory_in d c
     → process ≡ process_in d c → cause ≡ cause_in names c → threads ≡ threads_in names scan c
-    → point ≡ point_in c threads.code_bits threads.crashing → modules ≡ modules_in d c
+    → point ≡ point_in c threads.code_bits cause.counts threads.crashing → modules ≡ modules_in d c
     → damage ≡ damage_in c directory process cause threads
     → ◌≡◌ {A = CrashValue} (record { contents = c; directory = directory; process = process; cause = cause; threads = threads; point = point; modules = modules; damage = damage })
     (crash_by names scan d c)

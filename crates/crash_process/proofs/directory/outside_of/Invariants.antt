@@ -1,7 +1,8 @@
 -- The entries so far are counted.
 use Rattle.std.proofs.Common.{◌≡◌, ◌≤◌, count_by, take}
 use Rattle.minidump.specs.DumpValue.{dump_of}
-use Rattle.crash_process.specs.Directory.{all_entries, is_lost}
+use Rattle.minidump.specs.Dump.{all_entries}
+use Rattle.crash_process.specs.Directory.{is_lost}
 use Rattle.crash_process.proofs.directory.outside_of.Given as goal
 
 abbrev pub invariant-loop-index : goal.invariant-loop-index

@@ -1,12 +1,13 @@
--- The entries of the directory, which are as many as its header counts.
-use Rattle.minidump.specs.DumpValue.{dump_of}
-use Rattle.minidump.proofs.ExceptionLemmas.{as_many_entries, entries_with_indices}
+-- Memory is taken for an entry alone, and there are as many as the header counts.
+use Rattle.std.proofs.Common.{◌<◌, arith, rules}
+use Rattle.minidump_bytes.proofs.EntryLemmas.{length-entries}
+use Rattle.minidump_bytes.specs.Source.{bytes_of}
+use Rattle.minidump_format.specs.Header.{directory_entry}
 use Rattle.minidump.proofs.dump.Minidump.exceptions.Goals as goal
 
-pub returns-clause-means : goal.returns-clause-means
-returns-clause-means c =
-    rw (c.as_slice.ensures.value, c.in_ok-entries.ensures.means.1, entries_with_indices) at c.exceptions_among.ensures.means
-
-pub returns-clause-memory : goal.returns-clause-memory
-returns-clause-memory c =
-    rw (c.as_slice.ensures.value, c.in_ok-entries.ensures.means.1, as_many_entries (dump_of c.args.self.now)) at c.exceptions_among.ensures.memory
+pub returns-in_err-push-clause-memory : goal.returns-in_err-push-clause-memory
+returns-in_err-push-clause-memory c =
+    let dump = c.args.self.now in
+    let entries = length-entries directory_entry dump.endian (bytes_of dump.source) dump.header.stream_directory_rva dump.header.stream_count in
+    let some : 0 < dump.header.stream_count = grind (arith, c.loop-index-test.true, c.len-index-end.ensures, c.all_entries-entries.ensures.entries, entries) in
+    search (rules, some, c.from_residual.ensures.1)
