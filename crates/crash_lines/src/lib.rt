@@ -10,13 +10,14 @@
 //!
 //! # Errors
 //!
-//! `AllocError` alone, if an allocation fails. After it a text has what it had, and of a call that
-//! appends several lines perhaps some of these.
+//! `AllocError` alone, if an allocation fails. A call that appends one line then leaves the text as it
+//! was; of several lines some may be there.
 //!
 //! # What is proved
 //!
 //! - Each call appends the lines that a definition assigns to its arguments: `Adds` in the contract of
-//!   each. What a part writes is `part_text`.
+//!   each. What a part writes is `part_text`. What the text has after an error is proved of
+//!   [`push_line`], [`push_row`], [`push_count`] and [`push_if_missing`].
 //! - A line is its text, with control characters as escapes, and a line feed: `line_of`.
 #![tactic(auto)]
 
