@@ -1,14 +1,13 @@
 -- The items of a list in an order, each once.
-use Rattle.std.proofs.Common.{◌≡◌, ◌∙◌, ◌↔◌, T, Ordering, Less, List, [], ◌∷◌, ap, arith, map, refl, sym}
-use Rattle.std.specs.BTreeSet.{BTreeSet, IsFromIterResult}
+use Rattle.std.proofs.Common.{◌≡◌, ◌∙◌, ◌↔◌, T, Ordering, Less, List, [], ◌∷◌, ap, arith, map, refl, sym, is_some, BTreeSet, nat_cmp}
+use Rattle.std.specs.BTreeSet.{IsFromIterResult}
 use Rattle.std.specs.Cmp.{IsTotalOrder, nat_cmp_total, on_total, then_total}
 use Rattle.std.specs.FinMap.{FinMap, contains_key-keys, entries, entries_sorted, from_entries, get-from_entries, is_sorted}
 use Rattle.std.specs.FinMap.Entries.{below_all, is_some-find}
 use Rattle.std.specs.List.{All, AllByRecursion, list_any}
 use Rattle.std.specs.List.Sorted.{IsStrictlySortedBy}
 use Rattle.std.specs.Map.{keys_of}
-use Rattle.std.specs.Ordering.{eq_by_cmp, nat_cmp}
-use Rattle.std.specs.Prelude.{is_some}
+use Rattle.std.specs.Ordering.{eq_by_cmp}
 use Rattle.std.proofs.lemmas.Bool.Decides.{same_from_decides}
 use Rattle.std.proofs.lemmas.List.Elements.{recursion_from_All}
 use Rattle.std.proofs.lemmas.Map.Lookups.{CmpEqualImpliesEq, btree_set_from_contains, exact_pairs, exact_unsigned}

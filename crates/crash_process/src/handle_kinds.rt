@@ -49,10 +49,9 @@ fn tally_of<'h>(
 {
     let mut table = BTreeMap::new(alloc);
     for handle in handles {
-        let Some(name) = &handle.type_name else {
-            continue;
-        };
-        *table.entry(name.as_str())?.or_insert(0) += 1;
+        if let Some(name) = &handle.type_name {
+            *table.entry(name.as_str())?.or_insert(0) += 1;
+        }
     }
     Ok(table)
 }

@@ -1,16 +1,14 @@
 -- One handle more, and the end: a table that has each name of a type with its number is that of the definition.
-use Rattle.std.proofs.Common.{◌≡◌, ◌∙◌, ◌+◌, ◌<◌, ℕ, Bool, ◌||◌, cond, List, [], ◌∷◌, ap, get_or, length, map, refl, sym, arith, rules}
+use Rattle.std.proofs.Common.{◌≡◌, ◌∙◌, ◌+◌, ◌<◌, ℕ, Bool, ◌||◌, cond, List, [], ◌∷◌, ap, get_or, length, map, refl, sym, arith, rules, BTreeSet, count_by, unwrap_or, Bor, nat_cmp, take_all, length-take-le}
 use Rattle.std.specs.BTreeMap.{is_at}
-use Rattle.std.specs.BTreeSet.{BTreeSet}
 use Rattle.std.specs.Cmp.{on_total}
 use Rattle.std.specs.Cmp.Lexicographic.{slice_cmp}
 use Rattle.std.specs.List.{list_any}
 use Rattle.std.specs.List.Sorted.{IsStrictlySortedBy}
 use Rattle.std.specs.Map.{keys_of}
-use Rattle.std.specs.Ordering.{eq_by_cmp, nat_cmp}
-use Rattle.std.specs.Prelude.{count_by, unwrap_or}
+use Rattle.std.specs.Ordering.{eq_by_cmp}
 use Rattle.std.proofs.lemmas.Cmp.{nat_list_cmp_total}
-use Rattle.std.proofs.lemmas.List.{get_or-map, length-map, take_all, length-take-le}
+use Rattle.std.proofs.lemmas.List.{get_or-map, length-map}
 use Rattle.std.proofs.lemmas.List.Elements.{All-map}
 use Rattle.std.proofs.lemmas.List.Sums.{sum_by-cons, count_by-le-length}
 use Rattle.std.proofs.lemmas.Map.Entries.{btree_map_get_place}
@@ -19,7 +17,6 @@ use Rattle.std.proofs.lemmas.Map.Lookups.{exact_bytes}
 use Rattle.std.proofs.lemmas.Map.Made.{is_some-lookup}
 use Rattle.std.proofs.lemmas.Map.Text.{is_eq-slice_cmp}
 use Rattle.std.proofs.lemmas.Option.{slice_get-get_or}
-use denote.Ref.{Bor}
 use Rattle.minidump.specs.declared.MinidumpHandleDescriptor.{MinidumpHandleDescriptor}
 use Rattle.minidump.specs.Below.Records.Handles.{handle_of}
 use Rattle.crash_process.specs.HandleKinds.{has_type, type_names}
