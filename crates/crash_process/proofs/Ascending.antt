@@ -31,9 +31,10 @@ pub keys_are : {K X : Type 0} (f : K → X) (ks : List K) → keys_of (map (λ k
 keys_are f [] = refl
 keys_are f (k ∷ ks) = ap (λ l. k ∷ l) (keys_are f ks)
 
-entries_are : {K X : Type 0} (f : K → X) (es : List (K × X)) → AllByRecursion (λ e. e.1 ≡ f e.0) es → es ≡ map (λ k. (k, f k)) (keys_of es)
-entries_are f [] h = refl
-entries_are f (e ∷ es) h = λ i. (e.0, h.0 i) ∷ entries_are f es h.1 i
+values_are : {K X Y : Type 0} (key : Y → K) (value : Y → X) (f : K → X) (ys : List Y) → AllByRecursion (λ y. value y ≡ f (key y)) ys
+    → map {B = K × X} (λ y. (key y, value y)) ys ≡ map (λ k. (k, f k)) (map key ys)
+values_are key value f [] h = refl
+values_are key value f (y ∷ ys) h = λ i. (key y, h.0 i) ∷ values_are key value f ys h.1 i
 
 module _ {K : Type 0} (cmp : K → K → Ordering) (total : IsTotalOrder cmp) (exact : CmpEqualImpliesEq cmp) where
   -- a set that is made of a list
@@ -68,9 +69,10 @@ module _ {K : Type 0} (cmp : K → K → Ordering) (total : IsTotalOrder cmp) (e
       )
 
   -- exactly one table has these keys with these values
-  pub one_table : {X : Type 0} (f : K → X) (xs : List K) (es : List (K × X)) → IsAscending cmp xs (keys_of es) → All (λ e. e.1 ≡ f e.0) es
-      → es ≡ map (λ k. (k, f k)) (ascending cmp xs)
-  one_table f xs es h values = entries_are f es (recursion_from_All (λ e. e.1 ≡ f e.0) es values) ∙ ap (map (λ k. (k, f k))) ((one_ascends xs (keys_of es)).0 h)
+  pub one_table : {X Y : Type 0} (key : Y → K) (value : Y → X) (f : K → X) (xs : List K) (ys : List Y)
+      → IsAscending cmp xs (map key ys) → All (λ y. value y ≡ f (key y)) ys → map {B = K × X} (λ y. (key y, value y)) ys ≡ map (λ k. (k, f k)) (ascending cmp xs)
+  one_table key value f xs ys h values =
+      values_are key value f ys (recursion_from_All (λ y. value y ≡ f (key y)) ys values) ∙ ap (map (λ k. (k, f k))) ((one_ascends xs (map key ys)).0 h)
 
 -- ---- the order of pairs
 

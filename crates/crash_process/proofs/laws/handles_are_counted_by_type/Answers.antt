@@ -1,5 +1,5 @@
 -- The names of the types, ascending, each with its number.
-use Rattle.std.proofs.Common.{◌≡◌, ℕ, List, refl, count_by, nat_cmp}
+use Rattle.std.proofs.Common.{◌≡◌, ◌∙◌, map-id, sym, ℕ, List, refl, count_by, nat_cmp}
 use Rattle.std.specs.Cmp.Lexicographic.{slice_cmp}
 use Rattle.std.proofs.lemmas.Cmp.{nat_list_cmp_total}
 use Rattle.std.proofs.lemmas.List.Elements.{All-map}
@@ -13,7 +13,7 @@ pub returns : goal.returns
 returns c = λ handles table.
     let number : List ℕ → ℕ = λ name. count_by (has_type name) handles in
     let names = ascending (slice_cmp nat_cmp) (type_names handles) in (
-      λ h. one_table (slice_cmp nat_cmp) nat_list_cmp_total exact_bytes number (type_names handles) table h.names h.numbers,
+      λ h. sym (map-id table) ∙ one_table (slice_cmp nat_cmp) nat_list_cmp_total exact_bytes (λ e. e.0) (λ e. e.1) number (type_names handles) table h.names h.numbers,
       λ is. rw is (record {
         names = (one_ascends (slice_cmp nat_cmp) nat_list_cmp_total exact_bytes (type_names handles) _).1 (keys_are number names);
         numbers = All-map (λ e. e.1 ≡ number e.0) (λ name. (name, number name)) names (λ k d h. refl);

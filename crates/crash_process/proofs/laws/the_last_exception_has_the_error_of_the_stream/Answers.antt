@@ -1,7 +1,6 @@
 -- The last exception is the stream, so their errors are the same.
-use Rattle.std.proofs.Common.{◌≡◌, ◌∙◌, ◌-◌, List, [], ◌∷◌, Some, ap, arith, length, refl, sym, Err, slice_get, unwrap_or}
+use Rattle.std.proofs.Common.{option_and_then, ◌≡◌, ◌∙◌, ◌-◌, List, [], ◌∷◌, Some, ap, arith, length, refl, sym, Err, slice_get, unwrap_or}
 use Rattle.std.specs.List.{last_or}
-use Rattle.std.specs.Option.{option_and_then}
 use Rattle.std.specs.Result.{result_err}
 use Rattle.minidump.specs.declared.Error.TheVariants.{StreamNotFound}
 use Rattle.minidump.specs.Exceptions.{exceptions_in}
