@@ -16,7 +16,7 @@ use Rattle.std.proofs.lemmas.Map.Text.{is_eq-slice_cmp}
 use Rattle.std.proofs.lemmas.Option.{slice_get-get_or}
 use Rattle.minidump.specs.declared.MinidumpHandleDescriptor.{MinidumpHandleDescriptor}
 use Rattle.minidump.specs.Below.Records.Handles.{handle_of}
-use Rattle.crash_process.specs.HandleKinds.{has_type, type_names}
+use Rattle.crash_process.specs.HandleKinds.{has_type, kind_by, type_names}
 use Rattle.crash_process.proofs.Ascending.{keys_ascend, one_table}
 use Rattle.std.proofs.lemmas.Grind.{text_counts, text_groups}
 use Rattle.crash_process.proofs.handle_kinds.tally_of.Goals as goal
@@ -83,4 +83,4 @@ returns c =
           ∙ ap (list_any (λ h. has_type q (handle_of h))) all ∙ sym (any_named q hs),
       rises es ordered,
     ) in
-    one_table (slice_cmp nat_cmp) nat_list_cmp_total exact_bytes (λ e. e.0.now) (λ e. e.1) number (type_names handles) es names placed
+    one_table (slice_cmp nat_cmp) nat_list_cmp_total exact_bytes kind_by (λ e. e.0.now) (λ e. e.1) number (type_names handles) es names placed
