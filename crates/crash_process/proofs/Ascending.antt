@@ -1,14 +1,13 @@
 -- The items of a list in an order, each once.
-use Rattle.std.proofs.Common.{◌≡◌, ◌∙◌, ◌↔◌, T, Ordering, Less, List, [], ◌∷◌, ap, arith, map, refl, sym}
-use Rattle.std.specs.BTreeSet.{BTreeSet, IsFromIterResult}
+use Rattle.std.proofs.Common.{◌≡◌, ◌∙◌, ◌↔◌, T, Ordering, Less, List, [], ◌∷◌, ap, arith, map, refl, sym, is_some, BTreeSet, nat_cmp}
+use Rattle.std.specs.BTreeSet.{IsFromIterResult}
 use Rattle.std.specs.Cmp.{IsTotalOrder, nat_cmp_total, on_total, then_total}
 use Rattle.std.specs.FinMap.{FinMap, contains_key-keys, entries, entries_sorted, from_entries, get-from_entries, is_sorted}
 use Rattle.std.specs.FinMap.Entries.{below_all, is_some-find}
 use Rattle.std.specs.List.{All, AllByRecursion, list_any}
 use Rattle.std.specs.List.Sorted.{IsStrictlySortedBy}
 use Rattle.std.specs.Map.{keys_of}
-use Rattle.std.specs.Ordering.{eq_by_cmp, nat_cmp}
-use Rattle.std.specs.Prelude.{is_some}
+use Rattle.std.specs.Ordering.{eq_by_cmp}
 use Rattle.std.proofs.lemmas.Bool.Decides.{same_from_decides}
 use Rattle.std.proofs.lemmas.List.Elements.{recursion_from_All}
 use Rattle.std.proofs.lemmas.Map.Lookups.{CmpEqualImpliesEq, btree_set_from_contains, exact_pairs, exact_unsigned}
@@ -28,13 +27,14 @@ module _ {K X : Type 0} (cmp : K → K → Ordering) where
   rises (e ∷ es) h = (above e.0 es (grind arith), rises es (grind arith))
 
 -- entries whose values are those of their keys
-pub keys_are : {K X : Type 0} (f : K → X) (ks : List K) → keys_of (map (λ k. (k, f k)) ks) ≡ ks
-keys_are f [] = refl
-keys_are f (k ∷ ks) = ap (λ l. k ∷ l) (keys_are f ks)
+pub keys_are : {K X : Type 0} (make : K → X) (key : X → K) → ((k : K) → key (make k) ≡ k) → (ks : List K) → map key (map make ks) ≡ ks
+keys_are make key is [] = refl
+keys_are make key is (k ∷ ks) = λ i. is k i ∷ keys_are make key is ks i
 
-entries_are : {K X : Type 0} (f : K → X) (es : List (K × X)) → AllByRecursion (λ e. e.1 ≡ f e.0) es → es ≡ map (λ k. (k, f k)) (keys_of es)
-entries_are f [] h = refl
-entries_are f (e ∷ es) h = λ i. (e.0, h.0 i) ∷ entries_are f es h.1 i
+values_are : {K X Y Z : Type 0} (make : K → X → Z) (key : Y → K) (value : Y → X) (f : K → X) (ys : List Y) → AllByRecursion (λ y. value y ≡ f (key y)) ys
+    → map (λ y. make (key y) (value y)) ys ≡ map (λ k. make k (f k)) (map key ys)
+values_are make key value f [] h = refl
+values_are make key value f (y ∷ ys) h = λ i. make (key y) (h.0 i) ∷ values_are make key value f ys h.1 i
 
 module _ {K : Type 0} (cmp : K → K → Ordering) (total : IsTotalOrder cmp) (exact : CmpEqualImpliesEq cmp) where
   -- a set that is made of a list
@@ -53,7 +53,7 @@ module _ {K : Type 0} (cmp : K → K → Ordering) (total : IsTotalOrder cmp) (e
       let es = map {B = K × K} (λ x. (x, x)) xs in
       let m : FinMap cmp K = from_entries es in (
         λ q. sym (contains_key-keys m q) ∙ ap is_some (get-from_entries total es q) ∙ is_some-find cmp q es
-            ∙ ap (list_any (eq_by_cmp cmp q)) (keys_are (λ x. x) xs),
+            ∙ ap (list_any (eq_by_cmp cmp q)) (keys_are {X = K × K} (λ x. (x, x)) (λ e. e.0) (λ k. refl) xs),
         rises cmp (entries m) (entries_sorted m),
       )
 
@@ -69,9 +69,10 @@ module _ {K : Type 0} (cmp : K → K → Ordering) (total : IsTotalOrder cmp) (e
       )
 
   -- exactly one table has these keys with these values
-  pub one_table : {X : Type 0} (f : K → X) (xs : List K) (es : List (K × X)) → IsAscending cmp xs (keys_of es) → All (λ e. e.1 ≡ f e.0) es
-      → es ≡ map (λ k. (k, f k)) (ascending cmp xs)
-  one_table f xs es h values = entries_are f es (recursion_from_All (λ e. e.1 ≡ f e.0) es values) ∙ ap (map (λ k. (k, f k))) ((one_ascends xs (keys_of es)).0 h)
+  pub one_table : {X Y Z : Type 0} (make : K → X → Z) (key : Y → K) (value : Y → X) (f : K → X) (xs : List K) (ys : List Y)
+      → IsAscending cmp xs (map key ys) → All (λ y. value y ≡ f (key y)) ys → map (λ y. make (key y) (value y)) ys ≡ map (λ k. make k (f k)) (ascending cmp xs)
+  one_table make key value f xs ys h values = values_are make key value f ys (recursion_from_All (λ y. value y ≡ f (key y)) ys values)
+      ∙ ap (map (λ k. make k (f k))) ((one_ascends xs (map key ys)).0 h)
 
 -- ---- the order of pairs
 

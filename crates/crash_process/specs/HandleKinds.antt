@@ -3,7 +3,6 @@ use Rattle.std.specs.Prelude.{◌≡◌, ℕ, All, Bool, false, List, [], bytes_
 use Rattle.std.specs.Prelude.{string_bytes}
 use Rattle.std.specs.Cmp.Lexicographic.{slice_cmp}
 use Rattle.std.specs.List.{filter_map}
-use Rattle.std.specs.Map.{keys_of}
 use Rattle.std.specs.Option.{option_map_or}
 use Rattle.std.specs.Ordering.{nat_cmp}
 use Rattle.minidump.specs.declared.Error.{Error}
@@ -28,21 +27,23 @@ has_type name h = option_map_or (bytes_eq name) h.type_name false
 abbrev pub type_names : List Handle → List (List ℕ)
 type_names handles = filter_map (λ h. h.type_name) handles
 
--- each of these names once, ascending by its bytes, with the number of handles that have it
-abbrev pub tally : List Handle → List (List ℕ × ℕ)
-tally handles = map (λ name. (name, count_by (has_type name) handles))
+-- the kind of a name and its number
+abbrev pub kind_by : List ℕ → ℕ → KindValue
+kind_by name count = record { type_name = name; count = count }
+
+-- the kinds of handles: each of these names once, ascending by its bytes, with the number of handles
+-- that have it
+abbrev pub tally : List Handle → List KindValue
+tally handles = map (λ name. kind_by name (count_by (has_type name) handles))
     (ascending (slice_cmp nat_cmp) (type_names handles))
 
--- a table has exactly these names, each once, ascending, with the number of handles that have it
-pub record IsTally (handles : List Handle) (table : List (List ℕ × ℕ)) : Type 0 where
-  pub names : IsAscending (slice_cmp nat_cmp) (type_names handles) (keys_of table)
-  pub numbers : All (λ e. e.1 ≡ count_by (has_type e.0) handles) table
-
--- the kind of a name and its number
-abbrev pub kind_by : List ℕ × ℕ → KindValue
-kind_by p = record { type_name = p.0; count = p.1 }
+-- kinds are those of handles: they have exactly these names, each once, ascending, with the number of
+-- handles that have it
+pub record IsTally (handles : List Handle) (kinds : List KindValue) : Type 0 where
+  pub names : IsAscending (slice_cmp nat_cmp) (type_names handles) (map (λ k. k.type_name) kinds)
+  pub numbers : All (λ k. k.count ≡ count_by (has_type k.type_name) handles) kinds
 
 -- the kinds of handles: none where their stream can't be read
 abbrev pub kinds_in : Result (List Handle) Error → List KindValue
-kinds_in (Ok handles) = map kind_by (tally handles)
+kinds_in (Ok handles) = tally handles
 kinds_in (Err e) = []

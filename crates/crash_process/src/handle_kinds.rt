@@ -3,7 +3,7 @@ ghost use Rattle.std.specs.Prelude.{◌≡◌, IfOk, map};
 ghost use Rattle.minidump.specs.Below.Contexts.Context.{map_ok};
 ghost use Rattle.minidump.specs.Below.Records.Handles.{handle_of};
 ghost use Rattle.minidump.specs.Promise.{handle_data_stream};
-ghost use Rattle.crash_process.specs.HandleKinds.{kind_of, kinds_in, tally};
+ghost use Rattle.crash_process.specs.HandleKinds.{kind_by, kind_of, kinds_in, tally};
 
 use minidump::{Error, MinidumpHandleDataStream, MinidumpHandleDescriptor};
 use std::alloc::{AllocError, Global};
@@ -44,15 +44,14 @@ fn tally_of<'h>(
     alloc: Global,
     handles: &'h [MinidumpHandleDescriptor],
 ) -> Result<BTreeMap<&'h str, usize>, AllocError>
-    ensures { IfOk result (λ table. map (λ e. (e.0.now, e.1)) table.entries
+    ensures { IfOk result (λ table. map (λ e. kind_by e.0.now e.1) table.entries
         ≡ tally (map handle_of handles.now)) }
 {
     let mut table = BTreeMap::new(alloc);
     for handle in handles {
-        let Some(name) = &handle.type_name else {
-            continue;
-        };
-        *table.entry(name.as_str())?.or_insert(0) += 1;
+        if let Some(name) = &handle.type_name {
+            *table.entry(name.as_str())?.or_insert(0) += 1;
+        }
     }
     Ok(table)
 }

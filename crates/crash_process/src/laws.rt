@@ -3,7 +3,7 @@ ghost use Rattle.std.specs.Prelude.{◌≡◌, ◌↔◌, ℕ, List};
 ghost use Rattle.minidump.specs.Below.Records.Handles.{Handle};
 ghost use Rattle.minidump.specs.Dump.{Dump};
 ghost use Rattle.crash_process.specs.Directory.{HasErrorOfStream};
-ghost use Rattle.crash_process.specs.HandleKinds.{IsTally, tally};
+ghost use Rattle.crash_process.specs.HandleKinds.{IsTally, KindValue, tally};
 ghost use Rattle.crash_process.specs.Modules.{IsByAddress, LoadedValue, by_address};
 
 /// The entry of type ExceptionStream has the error for which [`minidump::Minidump::get_stream`]
@@ -22,9 +22,10 @@ pub fn modules_are_by_address()
         ↔ (indices ≡ by_address modules) }
 {}
 
-/// Exactly one table is the tally of handles, that of `tally`: it has a name exactly if the type of a
-/// handle has it, once, strictly ascending by its bytes, with the number of handles that have it.
+/// Exactly one list of kinds is the tally of handles, that of `tally`: it has a name exactly if the
+/// type of a handle has it, once, strictly ascending by its bytes, with the number of handles that have
+/// it.
 pub fn handles_are_counted_by_type()
-    ensures { (handles : List Handle) (table : List (List ℕ × ℕ)) → IsTally handles table
-        ↔ (table ≡ tally handles) }
+    ensures { (handles : List Handle) (kinds : List KindValue) → IsTally handles kinds
+        ↔ (kinds ≡ tally handles) }
 {}

@@ -1,28 +1,22 @@
 -- One handle more, and the end: a table that has each name of a type with its number is that of the definition.
-use Rattle.std.proofs.Common.{◌≡◌, ◌∙◌, ◌+◌, ◌<◌, ℕ, Bool, ◌||◌, cond, List, [], ◌∷◌, ap, get_or, length, map, refl, sym, arith, rules}
+use Rattle.std.proofs.Common.{Less, ◌≡◌, ◌∙◌, ◌<◌, ℕ, Bool, ◌||◌, cond, List, [], ◌∷◌, ap, get_or, length, map, refl, sym, arith, rules, BTreeSet, count_by, unwrap_or, Bor, nat_cmp, take_all, length-take-le}
 use Rattle.std.specs.BTreeMap.{is_at}
-use Rattle.std.specs.BTreeSet.{BTreeSet}
 use Rattle.std.specs.Cmp.{on_total}
 use Rattle.std.specs.Cmp.Lexicographic.{slice_cmp}
-use Rattle.std.specs.List.{list_any}
+use Rattle.std.specs.List.{AllByRecursion, list_any}
 use Rattle.std.specs.List.Sorted.{IsStrictlySortedBy}
 use Rattle.std.specs.Map.{keys_of}
-use Rattle.std.specs.Ordering.{eq_by_cmp, nat_cmp}
-use Rattle.std.specs.Prelude.{count_by, unwrap_or}
+use Rattle.std.specs.Ordering.{eq_by_cmp}
 use Rattle.std.proofs.lemmas.Cmp.{nat_list_cmp_total}
-use Rattle.std.proofs.lemmas.List.{get_or-map, length-map, take_all, length-take-le}
-use Rattle.std.proofs.lemmas.List.Elements.{All-map}
 use Rattle.std.proofs.lemmas.List.Sums.{sum_by-cons, count_by-le-length}
 use Rattle.std.proofs.lemmas.Map.Entries.{btree_map_get_place}
-use Rattle.std.proofs.lemmas.Map.Keys.{Less-from_sorted, sorted_from_all_adjacent}
 use Rattle.std.proofs.lemmas.Map.Lookups.{exact_bytes}
 use Rattle.std.proofs.lemmas.Map.Made.{is_some-lookup}
 use Rattle.std.proofs.lemmas.Map.Text.{is_eq-slice_cmp}
 use Rattle.std.proofs.lemmas.Option.{slice_get-get_or}
-use denote.Ref.{Bor}
 use Rattle.minidump.specs.declared.MinidumpHandleDescriptor.{MinidumpHandleDescriptor}
 use Rattle.minidump.specs.Below.Records.Handles.{handle_of}
-use Rattle.crash_process.specs.HandleKinds.{has_type, type_names}
+use Rattle.crash_process.specs.HandleKinds.{has_type, kind_by, type_names}
 use Rattle.crash_process.proofs.Ascending.{keys_ascend, one_table}
 use Rattle.std.proofs.lemmas.Grind.{text_counts, text_groups}
 use Rattle.crash_process.proofs.handle_kinds.tally_of.Goals as goal
@@ -30,29 +24,22 @@ use Rattle.crash_process.proofs.handle_kinds.tally_of.Goals as goal
 abbrev Text : Type 0
 Text = Bor (List ℕ)
 
-abbrev pair_of : Text × ℕ → List ℕ × ℕ
-pair_of e = (e.0.now, e.1)
-
 -- ---- the keys of a table, by their bytes
 
-rises : (ks : List Text) → IsStrictlySortedBy (λ (x y : Text). slice_cmp nat_cmp x.now y.now) ks → IsStrictlySortedBy (slice_cmp nat_cmp) (map (λ k. k.now) ks)
-rises ks h = sorted_from_all_adjacent nat_list_cmp_total (map (λ k. k.now) ks) [] (λ i within.
-    let none : Text = record { ref_ptr = (0, 0); now = [] } in
-    grind (
-      arith,
-      length-map ks (λ (k : Text). k.now),
-      get_or-map (λ (k : Text). k.now) ks i none [],
-      get_or-map (λ (k : Text). k.now) ks (i + 1) none [],
-      Less-from_sorted (λ (x y : Text). slice_cmp nat_cmp x.now y.now) ks i (i + 1) none h,
-    ))
+above : (x : Text) (es : List (Text × ℕ)) → AllByRecursion (λ (y : Text). slice_cmp nat_cmp x.now y.now ≡ Less) (keys_of es)
+    → AllByRecursion (λ y. slice_cmp nat_cmp x.now y ≡ Less) (map (λ e. e.0.now) es)
+above x [] h = tt
+above x (e ∷ es) h = (h.0, above x es h.1)
+
+rises : (es : List (Text × ℕ)) → IsStrictlySortedBy (λ (x y : Text). slice_cmp nat_cmp x.now y.now) (keys_of es)
+    → IsStrictlySortedBy (slice_cmp nat_cmp) (map (λ e. e.0.now) es)
+unfolding IsStrictlySortedBy
+rises [] h = tt
+rises (e ∷ es) h = (above e.0 es h.0, rises es h.1)
 
 any_mapped : {X Y : Type 0} (p : Y → Bool) (f : X → Y) (xs : List X) → list_any p (map f xs) ≡ list_any (λ x. p (f x)) xs
 any_mapped p f [] = refl
 any_mapped p f (x ∷ xs) = ap (λ b. p (f x) || b) (any_mapped p f xs)
-
-bytes_are : (es : List (Text × ℕ)) → keys_of (map pair_of es) ≡ map (λ k. k.now) (keys_of es)
-bytes_are [] = refl
-bytes_are (e ∷ es) = ap (λ l. e.0.now ∷ l) (bytes_are es)
 
 -- ---- the handles of descriptors
 
@@ -88,11 +75,12 @@ returns c =
     let e = get_or es i d in
     ap (λ o. unwrap_or o 0) (sym (btree_map_get_place (on_total (λ (k : Text). k.now) nat_list_cmp_total) table i e.0 e.1 ordered (slice_get-get_or es i d within)))
     ∙ c.loop-handle.invariant.counted e.0.now ∙ ap (count_by (λ h. has_type e.0.now (handle_of h))) all ∙ counted (has_type e.0.now) handle_of hs in
-    let keys : BTreeSet (List ℕ) = record { keys = map (λ k. k.now) (keys_of es) } in
+    let keys : BTreeSet (List ℕ) = record { keys = map (λ e. e.0.now) es } in
     let names = keys_ascend (slice_cmp nat_cmp) nat_list_cmp_total exact_bytes (type_names handles) keys (
-      λ q. any_mapped (is_at (slice_cmp nat_cmp q)) (λ k. k.now) (keys_of es) ∙ sym (is_some-lookup (is_at (λ (k : Text). slice_cmp nat_cmp q k.now)) es) ∙ c.loop-handle.invariant.present q
+      λ q.
+          let found = is_at (λ (k : Text). slice_cmp nat_cmp q k.now) in
+          any_mapped (is_at (slice_cmp nat_cmp q)) (λ e. e.0.now) es ∙ sym (is_some-lookup found es ∙ any_mapped found (λ e. e.0) es) ∙ c.loop-handle.invariant.present q
           ∙ ap (list_any (λ h. has_type q (handle_of h))) all ∙ sym (any_named q hs),
-      rises (keys_of es) ordered,
+      rises es ordered,
     ) in
-    one_table (slice_cmp nat_cmp) nat_list_cmp_total exact_bytes number (type_names handles) (map pair_of es) (rw (bytes_are es) names)
-    (All-map (λ e. e.1 ≡ number e.0) pair_of es placed)
+    one_table (slice_cmp nat_cmp) nat_list_cmp_total exact_bytes kind_by (λ e. e.0.now) (λ e. e.1) number (type_names handles) es names placed

@@ -1,10 +1,8 @@
 -- The handles so far are counted.
-use Rattle.std.proofs.Common.{◌≡◌, ℕ, List, take}
+use Rattle.std.proofs.Common.{◌≡◌, ℕ, List, take, count_by, is_some, unwrap_or, nat_cmp}
 use Rattle.std.specs.BTreeMap.{IsOrdered, get_by}
 use Rattle.std.specs.Cmp.Lexicographic.{slice_cmp}
 use Rattle.std.specs.List.{list_any}
-use Rattle.std.specs.Ordering.{nat_cmp}
-use Rattle.std.specs.Prelude.{count_by, is_some, unwrap_or}
 use Rattle.minidump.specs.Below.Records.Handles.{handle_of}
 use Rattle.crash_process.specs.HandleKinds.{has_type}
 use Rattle.crash_process.proofs.handle_kinds.tally_of.Given as goal

@@ -1,21 +1,16 @@
 -- The last exception is the stream, so their errors are the same.
-use Rattle.std.proofs.Common.{◌≡◌, ◌∙◌, ◌-◌, List, [], ◌∷◌, Some, ap, arith, length, refl, sym}
+use Rattle.std.proofs.Common.{option_and_then, ◌≡◌, ◌∙◌, ◌-◌, List, [], ◌∷◌, Some, ap, arith, length, refl, sym, Err, slice_get, unwrap_or}
 use Rattle.std.specs.List.{last_or}
-use Rattle.std.specs.Option.{option_and_then}
-use Rattle.std.specs.Prelude.{Err, slice_get, unwrap_or}
 use Rattle.std.specs.Result.{result_err}
 use Rattle.minidump.specs.declared.Error.TheVariants.{StreamNotFound}
 use Rattle.minidump.specs.Exceptions.{exceptions_in}
 use Rattle.crash_process.proofs.laws.the_last_exception_has_the_error_of_the_stream.Goals as goal
 
-by_index : {X : Type 0} (none x : X) (xs : List X) → last_or (Some x) xs ≡ Some (unwrap_or (slice_get (x ∷ xs) (length xs)) none)
-by_index none x [] = refl
-by_index none x (y ∷ ys) = by_index none y ys
-
 -- the last item is that at the last index, where there is one
 last_is : {X : Type 0} (none : X) (xs : List X) → last_or (Some none) xs ≡ Some (unwrap_or (slice_get xs (length xs - 1)) none)
 last_is none [] = refl
-last_is none (x ∷ xs) = grind (arith, by_index none x xs)
+last_is none (x ∷ []) = refl
+last_is none (x ∷ y ∷ ys) = grind (arith, last_is none (y ∷ ys))
 
 pub returns : goal.returns
 returns c = λ d.

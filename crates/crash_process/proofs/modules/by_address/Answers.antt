@@ -9,7 +9,6 @@ use Rattle.crash_process.proofs.Ascending.{keys_ascend, one_ascends, pairs_exact
 use Rattle.std.proofs.lemmas.Iterator.{YieldsList-from_map, YieldsList-from_slice, items_from_collect}
 use Rattle.std.proofs.lemmas.Iterator.Adapters.{fact_from_collect}
 use Rattle.std.proofs.lemmas.Iterator.Consumers.{YieldsList-at, YieldsList-from_enumerate, YieldsList-from_rest}
-use Rattle.std.proofs.lemmas.Result.{IfOk-weaker}
 use Rattle.crash_process.proofs.modules.by_address.Goals as goal
 
 -- the bases with their indices
@@ -28,7 +27,6 @@ returns c =
     (YieldsList-from_enumerate (YieldsList-at c.enumerate.ensures.source (YieldsList-from_slice modules c.iter.ensures.rest)) c.enumerate.ensures.count))
     c.map.ensures.closure (λ x r q k. search (rules, tests))) in
     let order = (one_ascends pair_cmp pairs_total pairs_exact _ _).0 (keys_ascend pair_cmp pairs_total pairs_exact _ bases (rw c.in_ok-bases.was at made)) ∙ ap (ascending pair_cmp) (numbered 0 modules) in
-    IfOk-weaker c.collect-2.result (λ indices. indices.items ≡ map (λ p. p.1) bases.keys) _ (λ indices is. is ∙ ap (map (λ p. p.1)) order)
-    (items_from_collect _ c.collect-2.ensures.ran
+    rw (← order) (items_from_collect _ c.collect-2.ensures.ran
     (YieldsList-from_map _ (λ p. p.1) (YieldsList-at c.map-2.ensures.source (YieldsList-from_rest bases.keys c.iter-2.ensures.rest))
     c.map-2.ensures.closure (λ x r q k. search (rules, tests))))
