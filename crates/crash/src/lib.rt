@@ -47,7 +47,7 @@ pub use crash_streams::{
 pub use crash_threads::{
     AddressFacts, AddressMemory, ContextOrigin, ContextProblem, CrashCause, CrashContext,
     CrashException, CrashFrame, CrashPoint, CrashThread, CrashThreads, CrashWalk, MemoryRights,
-    ShortContext, StackRange, StackWord, frame_in, unaccepted_size,
+    ShortContext, StackRange, StackWord, unaccepted_size,
 };
 pub use damage::Damage;
 

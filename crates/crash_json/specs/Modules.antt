@@ -63,7 +63,7 @@ flag_members missing loaded corrupt lacks_memory =
 
 -- what is known of the symbols of the module of an index, where symbols are known
 abbrev pub symbol_members : Option SymbolizedValue → ℕ → List (List ℕ × Json)
-symbol_members (Some s) index = let state = state_at s.states index in
+symbol_members (Some s) index = let state = state_at s.known.states index in
     flag_members (are_missing state) (are_loaded state) (are_corrupt state) (lack_memory state)
 symbol_members None index = []
 

@@ -1,21 +1,20 @@
 -- Threads as JSON.
-use Rattle.std.specs.Prelude.{ℕ, Bool, true, false, List, [], ◌∷◌, ◌++◌, codes, length, take}
+use Rattle.std.specs.Prelude.{ℕ, Bool, true, false, List, [], ◌∷◌, ◌++◌, codes, length}
 use Rattle.std.specs.Prelude.{Option, if◌then◌else◌}
 use Rattle.std.specs.Option.{option_and_then, option_map, option_map_or}
 use Rattle.json.specs.Json.{Json, boolean, string}
+use Rattle.stack_walk.specs.declared.end.WalkEnd.{WalkEnd}
 use Rattle.stack_walk.specs.declared.end.WalkEnd.TheVariants as ending
-use Rattle.symbol_walk.specs.declared.walk.SymbolWalkEnd.{SymbolWalkEnd}
-use Rattle.symbol_walk.specs.declared.walk.SymbolWalkEnd.TheVariants.{NoReturnRule, Walk}
-use Rattle.symbol_walk.specs.declared.walk.SymbolWalkEnd.TheVariants.{ZeroReturnAddress}
 use Rattle.crash_threads.specs.declared.contexts.ContextOrigin.{ContextOrigin}
 use Rattle.crash_threads.specs.declared.contexts.ContextOrigin.TheVariants.{OfException, OfThread}
 use Rattle.crash_threads.specs.declared.contexts.ShortContext.{ShortContext}
+use Rattle.crash_threads.specs.declared.frames.CrashFrame.{CrashFrame}
 use Rattle.crash_threads.specs.declared.stacks.StackRange.{StackRange}
 use Rattle.crash_threads.specs.Contexts.{unaccepted_size}
 use Rattle.crash_threads.specs.Threads.{ThreadValue, ThreadsValue, crashed_thread, short_context}
-use Rattle.crash_symbols.specs.Backtraces.{BacktraceValue}
+use Rattle.crash_threads.specs.Frames.{CrashWalkValue, all_frames}
 use Rattle.crash_symbols.specs.Names.{NamedFrameValue}
-use Rattle.crash_symbols.specs.Shown.{all_frames, shown_in}
+use Rattle.crash_symbols.specs.Shown.{SymbolizedValue, first_frames, known_in, shown_in}
 use Rattle.crash_json.specs.Tree.{count, hex_string, numbered_array_of, object_of, or_null}
 use Rattle.crash_json.specs.Cause.{problem_name}
 use Rattle.crash_json.specs.Frames.{frame_json}
@@ -30,24 +29,28 @@ unfoldable pub short_json : ShortContext → Json
 short_json s = object_of ((codes "size", count s.size) ∷ (codes "whole", count s.whole) ∷ [])
 
 -- the word for why the last frame has no caller
-abbrev pub end_name : SymbolWalkEnd → List ℕ
-end_name (Walk ending.NoMemory) = codes "no_memory"
-end_name (Walk ending.UnknownWidth) = codes "unknown_width"
-end_name (Walk ending.NoFramePointer) = codes "no_frame_pointer"
-end_name (Walk ending.ZeroFramePointer) = codes "zero_frame_pointer"
-end_name (Walk ending.BelowStackPointer) = codes "below_stack_pointer"
-end_name (Walk ending.NoRecord) = codes "no_record"
-end_name (Walk ending.NoCode) = codes "no_code"
-end_name NoReturnRule = codes "no_return_rule"
-end_name ZeroReturnAddress = codes "zero_return_address"
+abbrev pub end_name : WalkEnd → List ℕ
+end_name ending.NoMemory = codes "no_memory"
+end_name ending.UnknownWidth = codes "unknown_width"
+end_name ending.NoFramePointer = codes "no_frame_pointer"
+end_name ending.ZeroFramePointer = codes "zero_frame_pointer"
+end_name ending.BelowStackPointer = codes "below_stack_pointer"
+end_name ending.NoRecord = codes "no_record"
+end_name ending.NoCode = codes "no_code"
+end_name ending.NoReturnRule = codes "no_return_rule"
+end_name ending.ZeroReturnAddress = codes "zero_return_address"
 
 -- what is found in a stack: the frames, and after them the candidates
-abbrev pub frames_in : Option BacktraceValue → List NamedFrameValue
+abbrev pub frames_in : Option CrashWalkValue → List CrashFrame
 frames_in walk = option_map_or all_frames walk []
 
 -- the candidates among these
-abbrev pub candidates_in : Option BacktraceValue → List NamedFrameValue
+abbrev pub candidates_in : Option CrashWalkValue → List CrashFrame
 candidates_in walk = option_map_or (λ w. w.candidates) walk []
+
+-- the first of these, each with its names
+abbrev pub named_frames : ℕ → Option SymbolizedValue → Option CrashWalkValue → List NamedFrameValue
+named_frames limit symbols walk = option_map_or (first_frames limit (known_in symbols)) walk []
 
 -- the index of the thread that crashed, as its first member
 abbrev pub index_members : Bool → ℕ → List (List ℕ × Json)
@@ -55,7 +58,7 @@ index_members is_crashing number =
     if is_crashing then (codes "threads_index", count number) ∷ [] else []
 
 -- the members of a thread but its frames, by what is shown of it
-unfoldable pub thread_members : ThreadValue → Option BacktraceValue → List (List ℕ × Json)
+unfoldable pub thread_members : ThreadValue → Option CrashWalkValue → List (List ℕ × Json)
 thread_members t walk =
     (codes "thread_id", count t.id)
     ∷ (codes "thread_name", or_null string t.name)
@@ -77,7 +80,7 @@ thread_json r is_crashing number t = let walk = shown_in r.symbols number t in o
     index_members is_crashing number ++ (thread_members t walk
     ++ ((
       codes "frames",
-      numbered_array_of (frame_json r is_crashing t) (take r.limits.frames (frames_in walk)),
+      numbered_array_of (frame_json r is_crashing t) (named_frames r.limits.frames r.symbols walk),
     ) ∷ [])))
 
 -- the threads

@@ -4,8 +4,8 @@ ghost use Rattle.std.specs.Option.{option_copied, option_map};
 ghost use Rattle.json.specs.Json.{string};
 ghost use Rattle.crash.specs.Crash.{crash_of};
 ghost use Rattle.crash_threads.specs.Threads.{thread_value};
-ghost use Rattle.crash_symbols.specs.NameParts.{call_of, function_of, source_of};
-ghost use Rattle.crash_symbols.specs.Shown.{shown_frame_of, symbolized_of};
+ghost use Rattle.crash_symbols.specs.NameParts.{call_of, function_of, named_of, source_of};
+ghost use Rattle.crash_symbols.specs.Shown.{symbolized_of};
 ghost use Rattle.crash_json.specs.Tree.{Adds, Puts, or_null};
 ghost use Rattle.crash_json.specs.ReportValue.{report_of};
 ghost use Rattle.crash_json.specs.Frames.{file_at, frame_members, function_members};
@@ -15,7 +15,7 @@ ghost use Rattle.crash_json.specs.Frames.{source_members, trust_name};
 use crate::report::Report;
 use crate::tree::{Members, NumberedJson, Put, ToJson, members};
 use crash::{Crash, CrashFrame, CrashThread};
-use crash_symbols::{FrameFunction, InlinedCall, ShownFrame, SourceLine, Symbolized};
+use crash_symbols::{FrameFunction, InlinedCall, NamedFrame, SourceLine, Symbolized};
 use json::Writer;
 use stack_walk::FrameTrust;
 use std::alloc::Global;
@@ -29,19 +29,13 @@ pub(crate) struct EachFrame<'l, 'a, 's, 'n> {
     pub(crate) is_crashing: bool,
 }
 
-impl<'s, 'n> NumberedJson<ShownFrame<'s, 'n>> for EachFrame<'_, '_, 's, 'n> {
+impl<'n> NumberedJson<NamedFrame<'n>> for EachFrame<'_, '_, '_, 'n> {
     ghost use Rattle.crash_json.specs.Frames.{frame_json};
 
     ghost json_at = { λ e n f. frame_json (report_of e.report) e.is_crashing
-        (thread_value e.thread.now) n (shown_frame_of f) };
+        (thread_value e.thread.now) n (named_of f) };
 
-    fn put_at(
-        &self,
-        number: usize,
-        item: &ShownFrame<'s, 'n>,
-        out: &mut Writer,
-        alloc: Global,
-    ) -> Put {
+    fn put_at(&self, number: usize, item: &NamedFrame<'n>, out: &mut Writer, alloc: Global) -> Put {
         out.begin_object()?;
         out.key("frame")?;
         number.put(out, alloc)?;
@@ -129,18 +123,18 @@ fn put_registers(
 #[tactic(auto, unfolding(crate::specs::Tree::member_list_tokens), using(crate::proofs::Tokens::views))]
 fn add_names(
     symbols: Option<&Symbolized<'_, '_>>,
-    frame: &ShownFrame<'_, '_>,
+    frame: &NamedFrame<'_>,
     out: &mut Writer,
     alloc: Global,
 ) -> Put
     ensures { Adds result out.old out.new (name_members
-        (option_map symbolized_of (option_copied symbols.entry)) (shown_frame_of frame.now)) }
+        (option_map symbolized_of (option_copied symbols.entry)) (named_of frame.now)) }
 {
     match symbols {
         Some(_) => members! {
             ..frame.function,
             ..frame.line,
-            "inlines": frame.inlines,
+            "inlines": frame.inlines.as_slice(),
             "missing_symbols": frame.function.is_none(),
         }
         .add(out, alloc),

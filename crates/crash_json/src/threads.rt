@@ -1,24 +1,27 @@
 //! The threads, and the one that crashed.
-ghost use Rattle.std.specs.Prelude.{◌≡◌, IfOk, length, map, take};
+ghost use Rattle.std.specs.Prelude.{◌≡◌, IfOk, length, map};
 ghost use Rattle.std.specs.Option.{option_copied, option_map};
 ghost use Rattle.json.specs.Json.{string};
+ghost use Rattle.crash_threads.specs.Frames.{crash_walk_of};
 ghost use Rattle.crash_threads.specs.Threads.{thread_value, threads_of};
-ghost use Rattle.crash_symbols.specs.Shown.{shown_frame_of, shown_of};
+ghost use Rattle.crash_symbols.specs.NameParts.{named_of};
+ghost use Rattle.crash_symbols.specs.Shown.{symbolized_of};
 ghost use Rattle.crash_json.specs.Tree.{Adds, Puts};
 ghost use Rattle.crash_json.specs.ReportValue.{report_of};
-ghost use Rattle.crash_json.specs.Threads.{candidates_in, crashing_json, end_name, frames_in};
+ghost use Rattle.crash_json.specs.Threads.{candidates_in, crashing_json, end_name, frames_in, named_frames};
 ghost use Rattle.crash_json.specs.Threads.{index_members, range_json, registers_of, short_json, thread_members};
 ghost use Rattle.crash_json.specs.Threads.{threads_json};
 
 use crate::frames::EachFrame;
 use crate::report::Report;
 use crate::tree::{Decimal, Members, Numbered, NumberedJson, Put, ToJson, members};
-use crash::{ContextOrigin, CrashThread, CrashThreads, ShortContext, StackRange, unaccepted_size};
-use crash_symbols::{ShownFrame, ShownWalk, shown_walk};
+use crash::{
+    ContextOrigin, CrashThread, CrashThreads, CrashWalk, ShortContext, StackRange, unaccepted_size,
+};
+use crash_symbols::{NamedFrame, Symbolized, first_frames, shown_walk};
 use json::Writer;
 use stack_walk::WalkEnd;
 use std::alloc::{AllocError, Global};
-use symbol_walk::SymbolWalkEnd;
 
 // What the values of threads are made by. With `is_crashing` a thread is written with its index,
 // and its first frame with its registers: so is `crashing_thread`, and no item of `threads`.
@@ -35,8 +38,8 @@ impl NumberedJson<CrashThread> for EachThread<'_, '_, '_, '_> {
 
     fn put_at(&self, number: usize, item: &CrashThread, out: &mut Writer, alloc: Global) -> Put {
         let (report, is_crashing) = (self.report, self.is_crashing);
-        let walk = shown_walk(alloc, item, number, report.symbols)?;
-        let frames = first_frames(alloc, &walk, report.limits.frames)?;
+        let walk = shown_walk(item, number, report.symbols);
+        let frames = named_frames(alloc, walk, report.symbols, report.limits.frames)?;
         let by = EachFrame {
             report,
             thread: item,
@@ -44,7 +47,7 @@ impl NumberedJson<CrashThread> for EachThread<'_, '_, '_, '_> {
         };
         out.begin_object()?;
         add_index(is_crashing, number, out, alloc)?;
-        add_thread(item, &walk, out, alloc)?;
+        add_thread(item, walk, out, alloc)?;
         out.key("frames")?;
         Numbered(&frames, &by).put(out, alloc)?;
         out.end_object()
@@ -66,12 +69,12 @@ fn add_index(is_crashing: bool, number: usize, out: &mut Writer, alloc: Global) 
 // Adds a thread and what is shown of it, but for the frames.
 fn add_thread(
     thread: &CrashThread,
-    walk: &Option<ShownWalk<'_, '_>>,
+    walk: Option<&CrashWalk>,
     out: &mut Writer,
     alloc: Global,
 ) -> Put
     ensures { Adds result out.old out.new (thread_members (thread_value thread.now)
-        (option_map shown_of walk.now)) }
+        (option_map crash_walk_of (option_copied walk.entry))) }
 {
     members! {
         "thread_id": thread.id,
@@ -91,43 +94,45 @@ fn add_thread(
 }
 
 // Returns the first frames of what is shown of a thread, or none if nothing is.
-fn first_frames<'s, 'n>(
+fn named_frames<'n>(
     alloc: Global,
-    walk: &Option<ShownWalk<'s, 'n>>,
+    walk: Option<&CrashWalk>,
+    symbols: Option<&Symbolized<'_, 'n>>,
     limit: usize,
-) -> Result<Vec<ShownFrame<'s, 'n>>, AllocError>
-    ensures { IfOk result (λ frames. map shown_frame_of frames.items
-        ≡ take limit (frames_in (option_map shown_of walk.now))) }
+) -> Result<Vec<NamedFrame<'n>>, AllocError>
+    ensures { IfOk result (λ frames. map named_of frames.items ≡ named_frames limit
+        (option_map symbolized_of (option_copied symbols.entry))
+        (option_map crash_walk_of (option_copied walk.entry))) }
 {
+    let symbols = symbols.map(|shown| shown.symbols);
     match walk {
-        Some(walk) => walk.first_frames(alloc, limit),
+        Some(walk) => first_frames(alloc, walk, symbols, limit),
         None => Ok(Vec::new(alloc)),
     }
 }
 
 // Returns how many frames there are, with the candidates.
-fn frame_count(walk: &Option<ShownWalk<'_, '_>>) -> usize
-    ensures { result ≡ length (frames_in (option_map shown_of walk.now)) }
+fn frame_count(walk: Option<&CrashWalk>) -> usize
+    ensures { result ≡ length (frames_in (option_map crash_walk_of (option_copied walk.entry))) }
 {
-    walk.as_ref()
-        .map_or(0, |walk| walk.frames.len() + walk.candidates.len())
+    walk.map_or(0, |walk| walk.frames.len() + walk.candidates.len())
 }
 
 // Returns how many candidates there are.
-fn candidate_count(walk: &Option<ShownWalk<'_, '_>>) -> usize
-    ensures { result ≡ length (candidates_in (option_map shown_of walk.now)) }
+fn candidate_count(walk: Option<&CrashWalk>) -> usize
+    ensures { result ≡ length (candidates_in (option_map crash_walk_of (option_copied walk.entry))) }
 {
-    walk.as_ref().map_or(0, |walk| walk.candidates.len())
+    walk.map_or(0, |walk| walk.candidates.len())
 }
 
 // Returns why the last frame has no caller.
-fn end_of(walk: &Option<ShownWalk<'_, '_>>) -> Option<SymbolWalkEnd>
-    ensures { result ≡ option_map (λ w. w.end) (option_map shown_of walk.now) }
+fn end_of(walk: Option<&CrashWalk>) -> Option<WalkEnd>
+    ensures { result ≡ option_map (λ w. w.end) (option_map crash_walk_of (option_copied walk.entry)) }
 {
-    Some(walk.as_ref()?.end)
+    Some(walk?.end)
 }
 
-impl ToJson for SymbolWalkEnd {
+impl ToJson for WalkEnd {
     ghost json = { λ end. string (end_name end) };
 
     fn put(&self, out: &mut Writer, _alloc: Global) -> Put {
@@ -136,19 +141,19 @@ impl ToJson for SymbolWalkEnd {
 }
 
 // Returns the word for why the last frame has no caller.
-fn end_name(end: SymbolWalkEnd) -> &'static str
+fn end_name(end: WalkEnd) -> &'static str
     ensures { result.now ≡ end_name end }
 {
     match end {
-        SymbolWalkEnd::Walk(WalkEnd::NoMemory) => "no_memory",
-        SymbolWalkEnd::Walk(WalkEnd::UnknownWidth) => "unknown_width",
-        SymbolWalkEnd::Walk(WalkEnd::NoFramePointer) => "no_frame_pointer",
-        SymbolWalkEnd::Walk(WalkEnd::ZeroFramePointer) => "zero_frame_pointer",
-        SymbolWalkEnd::Walk(WalkEnd::BelowStackPointer) => "below_stack_pointer",
-        SymbolWalkEnd::Walk(WalkEnd::NoRecord) => "no_record",
-        SymbolWalkEnd::Walk(WalkEnd::NoCode) => "no_code",
-        SymbolWalkEnd::NoReturnRule => "no_return_rule",
-        SymbolWalkEnd::ZeroReturnAddress => "zero_return_address",
+        WalkEnd::NoMemory => "no_memory",
+        WalkEnd::UnknownWidth => "unknown_width",
+        WalkEnd::NoFramePointer => "no_frame_pointer",
+        WalkEnd::ZeroFramePointer => "zero_frame_pointer",
+        WalkEnd::BelowStackPointer => "below_stack_pointer",
+        WalkEnd::NoRecord => "no_record",
+        WalkEnd::NoCode => "no_code",
+        WalkEnd::NoReturnRule => "no_return_rule",
+        WalkEnd::ZeroReturnAddress => "zero_return_address",
     }
 }
 

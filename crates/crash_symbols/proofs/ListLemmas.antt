@@ -1,22 +1,13 @@
--- Lists: the last and the first items, what is found in items up to a number of them, and numbers one by one.
-use Rattle.std.proofs.Common.{◌≡◌, ◌∙◌, ◌+◌, ◌-◌, ◌<◌, ◌≤◌, ◌++◌, ◌∷◌, [], ℕ, zero, suc, Bool, List, Option, Some, None, ap, append-nil, append_assoc}
-use Rattle.std.proofs.Common.{arith, cond, filter, length, length-append, map, refl, reverse, sym, take}
+-- Lists: the last item, what is found in items up to a number of them, and numbers one by one.
+use Rattle.std.proofs.Common.{◌≡◌, ◌∙◌, ◌+◌, ◌-◌, ◌<◌, ◌≤◌, ◌++◌, ◌∷◌, [], ℕ, suc, Bool, List, Option, Some, None, ap, append-nil, append_assoc}
+use Rattle.std.proofs.Common.{arith, cond, filter, length, length-append, map, reverse, sym, take}
 use Rattle.std.specs.List.{cons_option, range_with_len}
-use Rattle.std.proofs.lemmas.List.{map-append, map-id, reverse-append, take-map}
+use Rattle.std.proofs.lemmas.List.{map-append, map-id, reverse-append}
 use Rattle.std.proofs.lemmas.List.FromFn.{filter_of_map_range_with_len_more, map-range_with_len_more}
 
 -- the last item of a list is the first of the reversed one
 pub last_first : {A : Type 0} (before after : List A) (x : A) → before ≡ after ++ (x ∷ []) → reverse before ≡ x ∷ reverse after
 last_first before after x is = ap reverse is ∙ reverse-append after (x ∷ [])
-
--- the first values are those of the first items of both lists
-pub first_values : {X Y : Type 0} (value : X → Y) (n : ℕ) (xs ys : List X)
-    → take n (map value xs ++ map value ys) ≡ map value (take n xs ++ take (n - length xs) ys)
-first_values value zero xs ys = (let none : 0 - length xs ≡ 0 = omega arith in rw none refl)
-first_values value (suc n) [] ys =
-    let all : suc n ≡ suc n - 0 = omega arith in
-    take-map value (suc n) ys ∙ ap (λ k. map value (take k ys)) all
-first_values value (suc n) (x ∷ xs) ys = grind (arith, first_values value n xs ys)
 
 -- ---- what is found in items, up to a number of them
 

@@ -5,12 +5,15 @@ use Rattle.std.specs.List.{concat}
 use Rattle.std.specs.Option.{option_and_then, option_map, option_map_or}
 use Rattle.std.specs.Str.Lossy.{utf8_lossy}
 use Rattle.minidump.specs.Below.Bytes.Piece.{hex}
+use Rattle.breakpad_symbols.specs.SymbolFile.{SymbolsValue}
+use Rattle.crash_threads.specs.declared.frames.CrashFrame.{CrashFrame}
 use Rattle.crash_threads.specs.Cause.{counted_exception}
 use Rattle.crash_process.specs.Modules.{LoadedValue}
 use Rattle.crash_threads.specs.Threads.{crashed_thread}
 use Rattle.crash.specs.Crash.{CrashValue}
-use Rattle.crash_symbols.specs.Names.{FunctionName, NamedFrameValue}
-use Rattle.crash_symbols.specs.Shown.{SymbolizedValue, shown_in}
+use Rattle.crash_symbols.specs.Names.{FunctionName, named_in}
+use Rattle.crash_symbols.specs.Shown.{SymbolizedValue, known_in, shown_in}
+use Rattle.crash_symbols.specs.Symbols.{files_of}
 
 -- the words for a frame: the name of its function, or where that isn't known the file of its module
 -- with the offset in it
@@ -18,20 +21,24 @@ abbrev pub mark_text : Option FunctionName → List ℕ → ℕ → List ℕ
 mark_text (Some f) file offset = utf8_lossy f.name
 mark_text None file offset = concat (file ∷ codes "+" ∷ hex offset ∷ [])
 
--- the same by the modules, for a frame that is in one
-abbrev pub mark_of : List LoadedValue → NamedFrameValue → Option (List ℕ)
-mark_of modules f = option_and_then
-    (λ p. option_map (λ m. mark_text f.function m.file p.1) (slice_get modules p.0))
-    f.frame.«module»
+-- the same by the modules and their symbols, for a frame that is in one
+abbrev pub mark_of : List LoadedValue → List (Option SymbolsValue) → CrashFrame → Option (List ℕ)
+mark_of modules files f = option_and_then (λ p. option_map
+    (λ m. mark_text (named_in files f).function m.file p.1) (slice_get modules p.0)) f.«module»
 
 -- the words for the first three frames that are in a module
-unfoldable pub marks_in : List LoadedValue → List NamedFrameValue → List (List ℕ)
-marks_in modules frames = take 3 (filter_map (mark_of modules) frames)
+unfoldable pub marks_in : List LoadedValue → List (Option SymbolsValue) → List CrashFrame → List (List ℕ)
+marks_in modules files frames = take 3 (filter_map (mark_of modules files) frames)
 
 -- the frames of the thread that crashed, without the candidates
-abbrev pub crashed_frames : Option SymbolizedValue → CrashValue → List NamedFrameValue
+abbrev pub crashed_frames : Option SymbolizedValue → CrashValue → List CrashFrame
 crashed_frames symbols c = option_map_or (λ w. w.frames)
     (option_and_then (λ p. shown_in symbols p.0 p.1) (crashed_thread c.threads)) []
+
+-- the words for those of them
+abbrev pub crashed_marks : Option SymbolizedValue → CrashValue → List (List ℕ)
+crashed_marks symbols c =
+    marks_in c.modules.loaded (files_of (known_in symbols)) (crashed_frames symbols c)
 
 -- the reason, where there is one, and then these texts
 abbrev pub with_reason : Option (List ℕ) → List (List ℕ) → List (List ℕ)
@@ -48,4 +55,4 @@ joined (text ∷ texts) = Some (text ++ flat_map (λ t. codes " | " ++ t) texts)
 unfoldable pub signature_in : Option SymbolizedValue → CrashValue → Option (List ℕ)
 signature_in symbols c =
     joined (with_reason (option_and_then (λ e. e.reason) (counted_exception c.cause))
-    (marks_in c.modules.loaded (crashed_frames symbols c)))
+    (crashed_marks symbols c))

@@ -1,5 +1,5 @@
 -- The symbol files of a process's modules.
-use Rattle.std.specs.Prelude.{ℕ, Bool, false, true, List, map, slice_get, Option}
+use Rattle.std.specs.Prelude.{ℕ, Bool, false, true, List, [], map, slice_get, Option}
 use Rattle.std.specs.Option.{option_map, option_map_or}
 use Rattle.breakpad_symbols.specs.SymbolFile.{SymbolsValue, symbols_of}
 use Rattle.crash_symbols.specs.declared.symbols.SymbolState.{SymbolState}
@@ -19,6 +19,10 @@ known_of s = record {
   files = map (option_map (λ f. symbols_of f.now)) s.files.items;
   states = s.states.items;
 }
+
+-- what the files say, where there are any
+abbrev pub files_of : Option KnownSymbols → List (Option SymbolsValue)
+files_of symbols = option_map_or (λ s. s.files) symbols []
 
 -- the state of the symbol file of the module of an index: unwanted beyond the list
 abbrev pub state_at : List SymbolState → ℕ → SymbolState

@@ -3,11 +3,11 @@
 //!
 //! - [`Symbols`] has the symbol file of each module that is known, and what is known of each file.
 //! - [`Backtraces::find`] walks each thread of a [`crash::Crash`] by the rules of these files, as
-//!   [`symbol_walk`] does, and names each frame.
+//!   [`symbol_walk`] does.
 //! - [`Backtraces::wanted`] returns the modules whose files are still to be read. Their rules may
 //!   lead to further frames, and so to further modules.
-//! - [`shown_walk`] is what a form shows of a thread: its backtrace, or without symbols its walk,
-//!   of which [`ShownWalk::first_frames`] takes the first frames.
+//! - [`shown_walk`] is what a form shows of a thread: its backtrace, or without symbols its walk.
+//!   [`first_frames`] returns the first frames of it, each with its names.
 //! - [`signature_of`] makes the signature of a crash, which crashes of one kind share.
 //! - [`symbol_path`] is where the file of a module lies below a directory of symbol files, and
 //!   [`is_of_module`] tells whether a file is the module's.
@@ -33,7 +33,7 @@
 //!   files say: [`Backtraces::find`].
 //! - The modules whose files are wanted are those of `wanted_in`: [`Backtraces::wanted`].
 //! - What is shown of a thread is `shown_in` of the backtraces and the thread: [`shown_walk`]. The
-//!   first of its frames are `first_frames` of that: [`ShownWalk::first_frames`].
+//!   first of its frames, with their names, are `first_frames` of that: [`first_frames`].
 //! - A signature is the text that `signature_in` assigns to the crash: [`signature_of`].
 //! - A file is a module's by `is_of_module`, and lies at `symbol_path`: [`is_of_module`],
 //!   [`symbol_path`].
@@ -47,9 +47,10 @@ mod signature;
 mod symbols;
 mod wanted;
 
-pub use backtraces::{Backtrace, Backtraces, Symbolized};
+pub use backtraces::{Backtraces, Symbolized};
 pub use modules::{is_of_module, symbol_path};
 pub use names::{FrameFunction, InlinedCall, NamedFrame, SourceLine};
-pub use shown::{ShownFrame, ShownWalk, first_of, shown_walk};
+pub use shown::{first_frames, shown_walk};
 pub use signature::signature_of;
 pub use symbols::{SymbolState, Symbols};
+pub use wanted::mark_frames;

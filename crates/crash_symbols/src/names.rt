@@ -1,11 +1,11 @@
 ghost use Rattle.std.specs.Prelude.{◌≡◌, IfOk, map, reverse};
-ghost use Rattle.std.specs.Option.{option_map};
+ghost use Rattle.std.specs.Option.{option_copied, option_map};
 ghost use Rattle.breakpad_symbols.specs.Function.{function_of};
 ghost use Rattle.breakpad_symbols.specs.SymbolFile.{symbols_of};
 ghost use Rattle.crash_symbols.specs.NameParts.{call_of, function_of as name_value, named_of, source_of};
 ghost use Rattle.crash_symbols.specs.Names.{calls_in, inlines_by, line_around};
 ghost use Rattle.crash_symbols.specs.Names.{line_at, named_at, named_in, public_name, source_of_call};
-ghost use Rattle.crash_symbols.specs.Symbols.{known_of};
+ghost use Rattle.crash_symbols.specs.Symbols.{files_of, known_of};
 
 use crate::Symbols;
 use breakpad_symbols::{Function, InlineCall, SymbolFile};
@@ -64,12 +64,13 @@ pub struct InlinedCall<'l> {
 #[tactic(auto, unfolding(crate::specs::Names::named_in))]
 pub(crate) fn named_in<'l>(
     alloc: Global,
-    symbols: &Symbols<'l>,
+    symbols: Option<&Symbols<'l>>,
     frame: CrashFrame,
 ) -> Result<NamedFrame<'l>, AllocError>
-    ensures { IfOk result (λ f. named_of f ≡ named_in (known_of symbols.now).files frame) }
+    ensures { IfOk result (λ f. named_of f
+        ≡ named_in (files_of (option_map known_of (option_copied symbols.entry))) frame) }
 {
-    if let Some((index, offset)) = frame.module {
+    if let (Some((index, offset)), Some(symbols)) = (frame.module, symbols) {
         if let Some(file) = symbols.file(index) {
             return named_at(alloc, file, frame, offset);
         }

@@ -3,13 +3,15 @@ ghost use Rattle.std.specs.Prelude.{◌≡◌, ◌++◌, IfOk, codes, flat_map, 
 ghost use Rattle.std.specs.Option.{option_copied, option_map};
 ghost use Rattle.crash.specs.Crash.{crash_of};
 ghost use Rattle.crash_process.specs.Modules.{loaded_of};
-ghost use Rattle.crash_symbols.specs.Shown.{shown_frame_of, symbolized_of};
-ghost use Rattle.crash_symbols.specs.Signature.{crashed_frames, joined, mark_of, marks_in};
+ghost use Rattle.crash_symbols.specs.Shown.{symbolized_of};
+ghost use Rattle.crash_symbols.specs.Symbols.{files_of, known_of};
+ghost use Rattle.crash_symbols.specs.Signature.{crashed_marks, joined, mark_of, marks_in};
 ghost use Rattle.crash_symbols.specs.Signature.{signature_in, with_reason};
 
-use crate::Symbolized;
-use crate::shown::{ShownFrame, shown_walk};
-use crash::{Crash, CrashModule};
+use crate::names::named_in;
+use crate::shown::shown_walk;
+use crate::{Symbolized, Symbols};
+use crash::{Crash, CrashFrame, CrashModule};
 use minidump::text::Piece::{Hex, Words};
 use minidump::text::format_pieces;
 use std::alloc::{AllocError, Global};
@@ -45,16 +47,16 @@ fn crashed_marks(
     symbols: Option<&Symbolized<'_, '_>>,
 ) -> Result<Vec<String>, AllocError>
     ensures { IfOk result (λ marks. map string_bytes marks.items
-        ≡ marks_in (crash_of crash.now).modules.loaded (crashed_frames
-        (option_map symbolized_of (option_copied symbols.entry)) (crash_of crash.now))) }
+        ≡ crashed_marks (option_map symbolized_of (option_copied symbols.entry)) (crash_of crash.now)) }
 {
     let Some((index, thread)) = crash.threads.crashed() else {
         return Ok(Vec::new(alloc));
     };
-    match shown_walk(alloc, thread, index, symbols)? {
+    match shown_walk(thread, index, symbols) {
         Some(walk) => marks_in(
             alloc,
             crash.modules.loaded.as_slice(),
+            symbols.map(|shown| shown.symbols),
             walk.frames.as_slice(),
         ),
         None => Ok(Vec::new(alloc)),
@@ -65,17 +67,19 @@ fn crashed_marks(
 fn marks_in(
     alloc: Global,
     modules: &[CrashModule],
-    frames: &[ShownFrame<'_, '_>],
+    symbols: Option<&Symbols<'_>>,
+    frames: &[CrashFrame],
 ) -> Result<Vec<String>, AllocError>
     ensures { IfOk result (λ marks. map string_bytes marks.items
-        ≡ marks_in (map loaded_of modules.now) (map shown_frame_of frames.now)) }
+        ≡ marks_in (map loaded_of modules.now)
+        (files_of (option_map known_of (option_copied symbols.entry))) frames.now) }
 {
     let mut marks = Vec::new(alloc);
     for frame in frames {
         if marks.len() >= FRAMES {
             return Ok(marks);
         }
-        if let Some(mark) = mark_of(alloc, modules, frame)? {
+        if let Some(mark) = mark_of(alloc, modules, symbols, frame)? {
             marks.push(mark)?;
         }
     }
@@ -87,18 +91,20 @@ fn marks_in(
 fn mark_of(
     alloc: Global,
     modules: &[CrashModule],
-    frame: &ShownFrame<'_, '_>,
+    symbols: Option<&Symbols<'_>>,
+    frame: &CrashFrame,
 ) -> Result<Option<String>, AllocError>
     ensures { IfOk result (λ mark. option_map string_bytes mark
-        ≡ mark_of (map loaded_of modules.now) (shown_frame_of frame.now)) }
+        ≡ mark_of (map loaded_of modules.now)
+        (files_of (option_map known_of (option_copied symbols.entry))) frame.now) }
 {
-    let Some((index, offset)) = frame.frame.module else {
+    let Some((index, offset)) = frame.module else {
         return Ok(None);
     };
     let Some(module) = modules.get(index) else {
         return Ok(None);
     };
-    let mark = match frame.function {
+    let mark = match named_in(alloc, symbols, *frame)?.function {
         Some(function) => function.name.to_string_lossy(alloc)?,
         None => format_pieces(
             alloc,

@@ -2,16 +2,16 @@ ghost use Rattle.std.specs.Prelude.{◌≡◌, ◌&&◌, ◌||◌, ◌<◌, ℕ,
 ghost use Rattle.std.specs.List.{list_any};
 ghost use Rattle.std.specs.Option.{option_map};
 ghost use Rattle.crash.specs.Crash.{crash_of};
-ghost use Rattle.crash_symbols.specs.Backtraces.{backtrace_of, backtraces_of, is_unwanted, lies_in};
-ghost use Rattle.crash_symbols.specs.Backtraces.{visits, wanted_in};
-ghost use Rattle.crash_symbols.specs.NameParts.{named_of};
+ghost use Rattle.crash_threads.specs.Frames.{crash_walk_of};
+ghost use Rattle.crash_symbols.specs.Backtraces.{backtraces_of, is_unwanted, lies_in, visits};
+ghost use Rattle.crash_symbols.specs.Backtraces.{wanted_in};
 ghost use Rattle.crash_symbols.specs.Symbols.{known_of};
 
-use crate::{Backtrace, Backtraces, NamedFrame, SymbolState, Symbols};
-use crash::Crash;
+use crate::{Backtraces, SymbolState, Symbols};
+use crash::{Crash, CrashFrame, CrashWalk};
 use std::alloc::{AllocError, Global};
 
-impl Backtraces<'_> {
+impl Backtraces {
     /// Returns the indices of the modules whose symbol files are wanted, ascending: a frame or a
     /// candidate lies in the module, and nothing is known of the file.
     pub fn wanted(
@@ -46,30 +46,30 @@ fn is_wanted(state: SymbolState, is_visited: bool) -> bool
 #[tactic(auto, using(std::proofs::lemmas::List::take_all))]
 fn visited(
     alloc: Global,
-    threads: &[Option<Backtrace<'_>>],
+    threads: &[Option<CrashWalk>],
     count: usize,
 ) -> Result<Vec<bool>, AllocError>
     ensures len { IfOk result (λ marks. length marks.items ≡ count) }
     ensures marks { IfOk result (λ marks. (k : ℕ) → k < count → slice_index_or marks.items k false
-        ≡ list_any (visits k) (map (option_map backtrace_of) threads.now)) }
+        ≡ list_any (visits k) (map (option_map crash_walk_of) threads.now)) }
 {
     let mut marks = vec![in alloc; false; count]?;
     for thread in threads {
-        if let Some(backtrace) = thread {
-            mark_frames(marks.as_mut_slice(), backtrace.frames.as_slice());
-            mark_frames(marks.as_mut_slice(), backtrace.candidates.as_slice());
+        if let Some(walk) = thread {
+            mark_frames(marks.as_mut_slice(), walk.frames.as_slice());
+            mark_frames(marks.as_mut_slice(), walk.candidates.as_slice());
         }
     }
     Ok(marks)
 }
 
-// Marks the modules in which frames lie.
-fn mark_frames(marks: &mut [bool], frames: &[NamedFrame<'_>])
+/// Marks the modules in which frames lie, by their indices.
+pub fn mark_frames(marks: &mut [bool], frames: &[CrashFrame])
     ensures { (k : ℕ) → k < length marks.old → slice_index_or marks.new k false
-        ≡ (slice_index_or marks.old k false || list_any (lies_in k) (map named_of frames.now)) }
+        ≡ (slice_index_or marks.old k false || list_any (lies_in k) frames.now) }
 {
-    for named in frames {
-        if let Some((index, _)) = named.frame.module {
+    for frame in frames {
+        if let Some((index, _)) = frame.module {
             if index < marks.len() {
                 marks[index] = true;
             }

@@ -4,13 +4,13 @@ use Rattle.std.specs.Prelude.{slice_get}
 use Rattle.std.specs.List.{flat_map}
 use Rattle.std.proofs.lemmas.List.{length-map}
 use Rattle.std.proofs.lemmas.Option.{slice_get_within}
-use Rattle.crash_threads.specs.declared.frames.CrashFrame.{CrashFrame}
 use Rattle.crash_process.specs.Modules.{LoadedValue, loaded_of}
 use Rattle.crash_text.specs.declared.limits.TextLimits.{TextLimits}
 use Rattle.crash_text.specs.declared.text.Page.{Page}
 use Rattle.crash_lines.specs.Lines.{line_of}
 use Rattle.crash_text.specs.Modules.{HasMarks, address_place, each_module, is_in, is_marked, is_named, listed_lines, named_modules, symbols_text}
 use Rattle.crash_text.specs.Page.{PageValue, page_of}
+use Rattle.crash_text.specs.Threads.{frames_in}
 
 -- the lines of a module, if there is one
 one_listed : (limits : TextLimits) (a b : Bool) (i : ℕ) (m : Option LoadedValue) (words : List ℕ) → ((x : LoadedValue) → m ≡ Some x → a ≡ b)
@@ -27,14 +27,15 @@ same_listed p f g (i ∷ rest) same =
     ∙ ap (λ lines. listed_lines p.limits (g i) i m words ++ lines) (same_listed p f g rest same)
 
 -- the lines by marks are those by what the marks say
-pub marked_lines : (page : Page) (marks : List Bool) (frames : List CrashFrame) (old new : List ℕ) → HasMarks marks (length page.crash.now.modules.loaded.items) frames
+pub marked_lines : (page : Page) (marks : List Bool) (old new : List ℕ)
+    → HasMarks marks (length page.crash.now.modules.loaded.items) (frames_in (page_of page) (page_of page).crash.threads.threads)
     → new ≡ old ++ flat_map line_of (each_module (page_of page) (is_marked page.crash.now.cause.address marks) page.crash.now.modules.by_address.items)
-    → new ≡ old ++ flat_map line_of (named_modules (page_of page) frames)
+    → new ≡ old ++ flat_map line_of (named_modules (page_of page))
 unfolding named_modules
-marked_lines page marks frames old new h added =
+marked_lines page marks old new h added =
     let loaded = page.crash.now.modules.loaded.items in let address = page.crash.now.cause.address in
     let same : length (map loaded_of loaded) ≡ length loaded = length-map loaded loaded_of in
     added
     ∙ ap (λ lines. old ++ flat_map line_of lines)
-    (same_listed (page_of page) (is_marked address marks) (is_named address frames) page.crash.now.modules.by_address.items
+    (same_listed (page_of page) (is_marked address marks) (is_named address (frames_in (page_of page) (page_of page).crash.threads.threads)) page.crash.now.modules.by_address.items
     (λ i within. ap (λ b. is_in i (address_place address) || b) (h.at i (rw same at within))))

@@ -12,6 +12,7 @@ use Rattle.crash_process.specs.Modules.{LoadedValue}
 use Rattle.crash_symbols.specs.declared.symbols.SymbolState.{SymbolState}
 use Rattle.crash_symbols.specs.declared.symbols.SymbolState.TheVariants.{Corrupt, Loaded, Missing}
 use Rattle.crash_symbols.specs.declared.symbols.SymbolState.TheVariants.{OutOfMemory, Unwanted}
+use Rattle.crash_symbols.specs.Backtraces.{lies_in}
 use Rattle.crash_symbols.specs.Shown.{SymbolizedValue}
 use Rattle.crash_symbols.specs.Symbols.{state_at}
 use Rattle.crash_text.specs.declared.limits.TextLimits.{TextLimits}
@@ -35,7 +36,7 @@ state_text OutOfMemory = codes ", no memory for its symbols"
 
 -- the same by the index of a module
 abbrev pub symbols_text : Option SymbolizedValue → ℕ → List ℕ
-symbols_text (Some s) index = state_text (state_at s.states index)
+symbols_text (Some s) index = state_text (state_at s.known.states index)
 symbols_text None index = []
 
 -- the line of a module: its base address, its end where all modules are asked for, its path, its
@@ -62,7 +63,7 @@ address_place address = option_and_then (λ a. a.«module») address
 -- the address of the crash or one of these frames is in the module of an index
 abbrev pub is_named : Option AddressFacts → List CrashFrame → ℕ → Bool
 is_named address frames index = is_in index (address_place address)
-    || list_any (λ f. is_in index f.«module») frames
+    || list_any (lies_in index) frames
 
 -- the module of an index with the words for its symbols, if all modules are asked for or it is named
 abbrev pub listed_lines : TextLimits → Bool → ℕ → Option LoadedValue → List ℕ → List (List ℕ)
@@ -79,15 +80,15 @@ module_at p named index = listed_lines p.limits (named index) index
 abbrev pub each_module : PageValue → (ℕ → Bool) → List ℕ → List (List ℕ)
 each_module p named indices = flat_map (module_at p named) indices
 
--- the modules that are listed, by the address of the crash and by frames
-unfoldable pub named_modules : PageValue → List CrashFrame → List (List ℕ)
-named_modules p frames =
-    each_module p (is_named p.crash.cause.address frames) p.crash.modules.by_address
+-- the modules that are listed, by the address of the crash and by the frames that are printed
+unfoldable pub named_modules : PageValue → List (List ℕ)
+named_modules p = each_module p
+    (is_named p.crash.cause.address (frames_in p p.crash.threads.threads)) p.crash.modules.by_address
 
 -- each of so many modules has a mark, that says whether one of these frames is in it
 pub record HasMarks (marks : List Bool) (count : ℕ) (frames : List CrashFrame) : Type 0 where
   pub size : length marks ≡ count
-  pub at : (i : ℕ) → i < count → get_or marks i false ≡ list_any (λ f. is_in i f.«module») frames
+  pub at : (i : ℕ) → i < count → get_or marks i false ≡ list_any (lies_in i) frames
 
 -- the address of the crash is in the module of an index, or it has a mark
 abbrev pub is_marked : Option AddressFacts → List Bool → ℕ → Bool
@@ -98,5 +99,5 @@ is_marked address marks index = is_in index (address_place address) || get_or ma
 -- the modules, or that their list is missing
 abbrev pub modules_lines : PageValue → Option Error → List (List ℕ)
 modules_lines p None = count_row (codes "modules") (length p.crash.modules.loaded)
-    ∷ named_modules p (frames_in p p.crash.threads.threads)
+    ∷ named_modules p
 modules_lines p (Some error) = if_missing (codes "no modules") error

@@ -5,22 +5,18 @@ use Rattle.std.specs.Prelude.{false, true, is_none, not}
 use Rattle.std.specs.Fmt.{decimal}
 use Rattle.std.specs.List.{concat, enumerate_from, flat_map}
 use Rattle.std.specs.Option.{option_copied, option_map, option_map_or}
-use Rattle.stack_walk.specs.declared.end.WalkEnd.TheVariants.{BelowStackPointer, NoCode}
-use Rattle.stack_walk.specs.declared.end.WalkEnd.TheVariants.{NoFramePointer, NoMemory, NoRecord}
-use Rattle.stack_walk.specs.declared.end.WalkEnd.TheVariants.{UnknownWidth, ZeroFramePointer}
+use Rattle.stack_walk.specs.declared.end.WalkEnd.{WalkEnd}
+use Rattle.stack_walk.specs.declared.end.WalkEnd.TheVariants as ending
 use Rattle.stack_walk.specs.declared.frame.FrameTrust.{FrameTrust}
 use Rattle.stack_walk.specs.declared.frame.FrameTrust.TheVariants.{Cfi, Context, FramePointer, Link}
 use Rattle.stack_walk.specs.declared.frame.FrameTrust.TheVariants.{Scan}
 use Rattle.minidump.specs.Below.Bytes.Piece.{hex}
-use Rattle.symbol_walk.specs.declared.walk.SymbolWalkEnd.{SymbolWalkEnd}
-use Rattle.symbol_walk.specs.declared.walk.SymbolWalkEnd.TheVariants.{NoReturnRule, Walk}
-use Rattle.symbol_walk.specs.declared.walk.SymbolWalkEnd.TheVariants.{ZeroReturnAddress}
 use Rattle.crash_threads.specs.declared.frames.CrashFrame.{CrashFrame}
 use Rattle.crash_process.specs.Modules.{LoadedValue}
-use Rattle.crash_symbols.specs.Backtraces.{BacktraceValue}
-use Rattle.crash_symbols.specs.NameParts.{call_of}
+use Rattle.crash_threads.specs.Frames.{CrashWalkValue, all_frames}
+use Rattle.crash_symbols.specs.NameParts.{call_of, named_of}
 use Rattle.crash_symbols.specs.Names.{CallValue, NamedFrameValue, SourceValue}
-use Rattle.crash_symbols.specs.Shown.{all_frames, first_frames, shown_frame_of, shown_in}
+use Rattle.crash_symbols.specs.Shown.{first_frames, known_in, shown_in}
 use Rattle.crash_threads.specs.declared.contexts.ContextProblem.{ContextProblem}
 use Rattle.crash_threads.specs.declared.contexts.ContextProblem.TheVariants.{NoSystem, NotAccepted}
 use Rattle.crash_threads.specs.declared.contexts.ContextProblem.TheVariants.{Outside}
@@ -44,7 +40,7 @@ EntryValue = NamedFrameValue × Option CallValue
 
 -- the same of a `FrameEntry`
 abbrev pub entry_of : FrameEntry → EntryValue
-entry_of e = (shown_frame_of e.frame.now, option_map call_of (option_copied e.call))
+entry_of e = (named_of e.frame.now, option_map call_of (option_copied e.call))
 
 -- the inlined calls at a frame, the innermost first
 abbrev pub call_entries : NamedFrameValue → List EntryValue
@@ -110,28 +106,27 @@ each_entry is_asked modules entries =
 
 -- ---- the frames of a thread
 
--- the frames of a thread that are printed: as many as the limit says, of the frames and the
--- candidates, or the first alone
-abbrev pub printed_frames : TextLimits → Bool → BacktraceValue → List NamedFrameValue
-printed_frames limits is_whole w =
-    if is_whole then first_frames limits.frames w else take 1 w.frames
+-- how many of the frames of a thread and the candidates after them are printed: as many as the
+-- limit says, or the first alone
+abbrev pub frame_limit : TextLimits → Bool → ℕ
+frame_limit limits is_whole = if is_whole then limits.frames else 1
 
 -- why a walk ends, in words
-abbrev pub end_text : SymbolWalkEnd → List ℕ
-end_text (Walk NoMemory) = codes "no memory of its stack"
-end_text (Walk UnknownWidth) = codes "unknown width of an address"
-end_text (Walk NoFramePointer) = codes "no frame pointer"
-end_text (Walk ZeroFramePointer) = codes "frame pointer of 0"
-end_text (Walk BelowStackPointer) = codes "frame pointer below the stack pointer"
-end_text (Walk NoRecord) = codes "no frame record at the frame pointer"
-end_text (Walk NoCode) = codes "no code at the return address"
-end_text NoReturnRule = codes "no rule for the return address"
-end_text ZeroReturnAddress = codes "return address of 0"
+abbrev pub end_text : WalkEnd → List ℕ
+end_text ending.NoMemory = codes "no memory of its stack"
+end_text ending.UnknownWidth = codes "unknown width of an address"
+end_text ending.NoFramePointer = codes "no frame pointer"
+end_text ending.ZeroFramePointer = codes "frame pointer of 0"
+end_text ending.BelowStackPointer = codes "frame pointer below the stack pointer"
+end_text ending.NoRecord = codes "no frame record at the frame pointer"
+end_text ending.NoCode = codes "no code at the return address"
+end_text ending.NoReturnRule = codes "no rule for the return address"
+end_text ending.ZeroReturnAddress = codes "return address of 0"
 
 -- what comes after the frames of a thread whose frames are all printed: how many more there are
 -- beyond the limit, the end of its walk, and how many of all of them are candidates, which follow
 -- the last caller
-unfoldable pub rest_lines : TextLimits → BacktraceValue → List (List ℕ)
+unfoldable pub rest_lines : TextLimits → CrashWalkValue → List (List ℕ)
 rest_lines limits w = table (
     (count_if (codes "    and ") (length (all_frames w) - limits.frames) (codes " more") ∷ [])
     ∷ (codes "    end: " ∷ end_text w.end ∷ [])
@@ -139,9 +134,9 @@ rest_lines limits w = table (
     ∷ [])
 
 -- what is found in the stack of a thread
-abbrev pub walk_lines : PageValue → Bool → BacktraceValue → List (List ℕ)
-walk_lines p is_whole w =
-    each_entry p.limits.lists p.crash.modules.loaded (entries_in (printed_frames p.limits is_whole w))
+abbrev pub walk_lines : PageValue → Bool → CrashWalkValue → List (List ℕ)
+walk_lines p is_whole w = each_entry p.limits.lists p.crash.modules.loaded
+    (entries_in (first_frames (frame_limit p.limits is_whole) (known_in p.symbols) w))
     ++ (if is_whole then rest_lines p.limits w else [])
 
 -- ---- a thread
@@ -199,7 +194,7 @@ own_words (Some NoSystem) = []
 own_words None = []
 
 -- what is found in the stack of a thread, or why nothing is
-abbrev pub found_lines : PageValue → Bool → ThreadValue → Option BacktraceValue → List (List ℕ)
+abbrev pub found_lines : PageValue → Bool → ThreadValue → Option CrashWalkValue → List (List ℕ)
 found_lines p is_whole t (Some w) =
     context_lines (own_words t.context_problem) t.context_problem ++ walk_lines p is_whole w
 found_lines p is_whole t None =
@@ -240,9 +235,9 @@ each_other p threads = flat_map (λ t. other_lines p t.0 t.1) (enumerate_from 0 
 
 -- those of a thread with an index: none if it has no walk
 abbrev pub frames_at : PageValue → ℕ → ThreadValue → List CrashFrame
-frames_at p number t = option_map_or (λ w. map (λ f. f.frame) (printed_frames p.limits
-    (is_index p.crash.threads.crashing number || shows_all p.limits p.crash.threads.crashing) w))
-    (shown_in p.symbols number t) []
+frames_at p number t = option_map_or (λ w. take (frame_limit p.limits
+    (is_index p.crash.threads.crashing number || shows_all p.limits p.crash.threads.crashing))
+    (all_frames w)) (shown_in p.symbols number t) []
 
 -- those of all threads
 abbrev pub frames_in : PageValue → List ThreadValue → List CrashFrame

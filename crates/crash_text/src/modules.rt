@@ -1,17 +1,19 @@
-ghost use Rattle.std.specs.Prelude.{◌≡◌, IfOk};
+ghost use Rattle.std.specs.Prelude.{◌≡◌, IfOk, map};
 ghost use Rattle.std.specs.Option.{option_copied, option_map};
+ghost use Rattle.crash_threads.specs.Threads.{thread_value};
 ghost use Rattle.crash_symbols.specs.Shown.{symbolized_of};
 ghost use Rattle.crash_lines.specs.Lines.{Adds};
 ghost use Rattle.crash_text.specs.Modules.{HasMarks, is_marked, module_at};
 ghost use Rattle.crash_text.specs.Modules.{modules_lines, named_modules, symbols_text};
 ghost use Rattle.crash_text.specs.Page.{page_of};
+ghost use Rattle.crash_text.specs.Threads.{frames_in};
 
 use crate::text::{Page, if_asked};
-use crate::threads::frames_in;
-use crash::{AddressFacts, CrashFrame};
+use crate::threads::frames_at;
+use crash::{AddressFacts, CrashThread};
 use crash_lines::Part::{DecimalIf, Hex, HexIf, Key, Text, Words};
 use crash_lines::{Added, push_count, push_if_missing, push_row};
-use crash_symbols::{SymbolState, Symbolized};
+use crash_symbols::{SymbolState, Symbolized, mark_frames};
 use minidump::Error;
 use std::alloc::{AllocError, Global};
 
@@ -25,38 +27,41 @@ pub(crate) fn push_modules(
 {
     match error {
         None => {
-            let threads = page.crash.threads.threads.as_slice();
-            let frames = frames_in(*out.allocator(), page, threads)?;
             push_count(out, "modules", page.crash.modules.loaded.len())?;
-            push_named(out, page, frames.as_slice())
+            push_named(out, page)
         }
         Some(error) => push_if_missing(out, "no modules", error),
     }
 }
 
-// Appends the lines of the modules that are listed, by frames.
-fn push_named(out: &mut String, page: Page<'_, '_, '_, '_>, frames: &[CrashFrame]) -> Added
-    ensures { Adds out.old out.new (named_modules (page_of page.entry) frames.now) result }
+// Appends the lines of the modules that are listed.
+fn push_named(out: &mut String, page: Page<'_, '_, '_, '_>) -> Added
+    ensures { Adds out.old out.new (named_modules (page_of page.entry)) result }
 {
     let loaded = page.crash.modules.loaded.as_slice();
-    let marks = marks_of(*out.allocator(), loaded.len(), frames)?;
+    let threads = page.crash.threads.threads.as_slice();
+    let marks = marks_of(*out.allocator(), loaded.len(), page, threads)?;
     for index in page.crash.modules.by_address.as_slice() {
         push_at(out, page, marks.as_slice(), *index)?;
     }
     Ok(())
 }
 
-// Marks the modules that frames are in, by their indices.
-fn marks_of(alloc: Global, count: usize, frames: &[CrashFrame]) -> Result<Vec<bool>, AllocError>
-    ensures { IfOk result (λ marks. HasMarks marks.items count frames.now) }
+// Marks the modules that the printed frames of threads are in, by their indices.
+fn marks_of(
+    alloc: Global,
+    count: usize,
+    page: Page<'_, '_, '_, '_>,
+    threads: &[CrashThread],
+) -> Result<Vec<bool>, AllocError>
+    ensures { IfOk result (λ marks. HasMarks marks.items count
+        (frames_in (page_of page.entry) (map thread_value threads.now))) }
 {
     let mut marks = vec![in alloc; false; count]?;
-    for frame in frames {
-        if let Some((index, _)) = frame.module
-            && index < marks.len()
-        {
-            marks[index] = true;
-        }
+    for (number, thread) in threads.iter().enumerate() {
+        let (frames, candidates) = frames_at(page, number, thread);
+        mark_frames(marks.as_mut_slice(), frames);
+        mark_frames(marks.as_mut_slice(), candidates);
     }
     Ok(marks)
 }

@@ -2,17 +2,17 @@
 ghost use Rattle.std.specs.Prelude.{◌≡◌, [], ◌∷◌, ◌++◌, IfOk, OnOk, if◌then◌else◌, map};
 ghost use Rattle.std.specs.Option.{option_map};
 ghost use Rattle.crash_process.specs.Process.{system_of};
+ghost use Rattle.crash_threads.specs.Frames.{crash_walk_of};
 ghost use Rattle.crash_threads.specs.Threads.{thread_value};
 ghost use Rattle.crash_process.specs.Modules.{loaded_of};
-ghost use Rattle.crash_symbols.specs.NameParts.{function_of, source_of};
+ghost use Rattle.crash_symbols.specs.NameParts.{function_of, named_of, source_of};
 ghost use Rattle.minidump_bytes.specs.LinuxOsStr.{text_of};
-ghost use Rattle.crash_symbols.specs.Shown.{shown_frame_of, shown_of};
 ghost use Rattle.crash_lines.specs.Lines.{Adds};
 ghost use Rattle.crash_text.specs.Page.{page_of};
 ghost use Rattle.crash_text.specs.Threads.{call_entries, crashed_lines, each_entry, each_other};
 ghost use Rattle.crash_text.specs.Threads.{end_text, entries_in, entry_line, entry_of, found_text};
-ghost use Rattle.crash_text.specs.Threads.{frames_at, frames_in, heading_lines, is_index, is_range};
-ghost use Rattle.crash_text.specs.Threads.{no_walk_words, other_lines, own_words, printed_frames};
+ghost use Rattle.crash_text.specs.Threads.{frame_limit, frames_at, heading_lines, is_index, is_range};
+ghost use Rattle.crash_text.specs.Threads.{no_walk_words, other_lines, own_words};
 ghost use Rattle.crash_text.specs.Threads.{range_row, rest_lines, shows_all, source_text};
 ghost use Rattle.crash_text.specs.Threads.{stack_lines, thread_lines, context_lines, walk_lines};
 ghost use Rattle.crash_lines.specs.Parts.{part_text};
@@ -20,19 +20,17 @@ ghost use Rattle.crash_lines.specs.Parts.{part_text};
 use crate::limits::TextLimits;
 use crate::text::{Page, if_asked};
 use crash::{
-    ContextProblem, CrashFrame, CrashModule, CrashSystem, CrashThread, StackRange, unaccepted_size,
+    ContextProblem, CrashFrame, CrashModule, CrashSystem, CrashThread, CrashWalk, StackRange,
+    unaccepted_size,
 };
 use crash_lines::Part::{
     Count, Decimal, DecimalIf, Hex, HexIf, HexUnless, Id, If, Lossy, Place, Short, Text, Words,
 };
 use crash_lines::{Added, Part, push_if_missing, push_row, push_table};
-use crash_symbols::{
-    FrameFunction, InlinedCall, ShownFrame, ShownWalk, SourceLine, first_of, shown_walk,
-};
+use crash_symbols::{FrameFunction, InlinedCall, NamedFrame, SourceLine, first_frames, shown_walk};
 use minidump_bytes::LinuxOsStr;
 use stack_walk::{FrameTrust, WalkEnd};
 use std::alloc::{AllocError, Global};
-use symbol_walk::SymbolWalkEnd;
 
 // Appends the lines of the thread that crashed, or that there are no threads.
 pub(crate) fn push_crashed(out: &mut String, page: Page<'_, '_, '_, '_>) -> Added
@@ -107,14 +105,14 @@ fn push_thread(
 {
     push_heading(out, thread)?;
     push_stack(out, is_whole, thread)?;
-    match shown_walk(*out.allocator(), thread, number, page.symbols)? {
+    match shown_walk(thread, number, page.symbols) {
         Some(walk) => {
             push_context(
                 out,
                 own_words(thread.context_problem),
                 thread.context_problem,
             )?;
-            push_walk(out, page, is_whole, &walk)
+            push_walk(out, page, is_whole, walk)
         }
         None => {
             let why = no_walk_words(&page.crash.process.system, thread.context_problem);
@@ -211,42 +209,21 @@ fn push_context(out: &mut String, words: &str, problem: Option<ContextProblem>) 
     push_table(out, &[&[Words(words), DecimalIf(", ", size, " bytes")]])
 }
 
-// Returns the frames of all threads that are printed.
-pub(crate) fn frames_in(
-    alloc: Global,
-    page: Page<'_, '_, '_, '_>,
-    threads: &[CrashThread],
-) -> Result<Vec<CrashFrame>, AllocError>
-    ensures { IfOk result (λ frames.
-        frames.items ≡ frames_in (page_of page.entry) (map thread_value threads.now)) }
-{
-    let mut frames = Vec::new(alloc);
-    for (number, thread) in threads.iter().enumerate() {
-        push_frames_at(&mut frames, page, number, thread)?;
-    }
-    Ok(frames)
-}
-
-// Appends the frames of a thread with its index that are printed.
-fn push_frames_at(
-    frames: &mut Vec<CrashFrame>,
-    page: Page<'_, '_, '_, '_>,
+// Returns the frames of a thread with its index that are printed, the candidates apart.
+pub(crate) fn frames_at<'x>(
+    page: Page<'x, '_, '_, '_>,
     number: usize,
-    thread: &CrashThread,
-) -> Added
-    ensures { OnOk result (frames.new.items ≡ frames.old.items
-        ++ frames_at (page_of page.entry) number (thread_value thread.now)) }
+    thread: &'x CrashThread,
+) -> (&'x [CrashFrame], &'x [CrashFrame])
+    ensures { result.0.now ++ result.1.now
+        ≡ frames_at (page_of page.entry) number (thread_value thread.now) }
 {
     let crashing = page.crash.threads.crashing;
     let is_whole = is_index(crashing, number) || shows_all(page.limits, crashing);
-    let alloc = *frames.allocator();
-    if let Some(walk) = shown_walk(alloc, thread, number, page.symbols)? {
-        let printed = printed_frames(alloc, page.limits, is_whole, &walk)?;
-        for shown in printed.as_slice() {
-            frames.push(shown.frame)?;
-        }
+    match shown_walk(thread, number, page.symbols) {
+        Some(walk) => walk.first(frame_limit(page.limits, is_whole)),
+        None => (&[], &[]),
     }
-    Ok(())
 }
 
 // Appends what is found in the stack of a thread, and why there is no more if all of its frames are
@@ -255,13 +232,14 @@ fn push_walk(
     out: &mut String,
     page: Page<'_, '_, '_, '_>,
     is_whole: bool,
-    walk: &ShownWalk<'_, '_>,
+    walk: &CrashWalk,
 ) -> Added
     ensures { Adds out.old out.new
-        (walk_lines (page_of page.entry) is_whole (shown_of walk.now)) result }
+        (walk_lines (page_of page.entry) is_whole (crash_walk_of walk.now)) result }
 {
     let alloc = *out.allocator();
-    let frames = printed_frames(alloc, page.limits, is_whole, walk)?;
+    let symbols = page.symbols.map(|shown| shown.symbols);
+    let frames = first_frames(alloc, walk, symbols, frame_limit(page.limits, is_whole))?;
     let entries = entries_in(alloc, frames.as_slice())?;
     let modules = page.crash.modules.loaded.as_slice();
     push_entries(out, page.limits.lists, modules, entries.as_slice())?;
@@ -272,22 +250,11 @@ fn push_walk(
     }
 }
 
-// Returns the frames of a walk that are printed.
-#[tactic(auto, using(crash_lines::proofs::LineLemmas::values))]
-fn printed_frames<'s, 'l>(
-    alloc: Global,
-    limits: &TextLimits,
-    is_whole: bool,
-    walk: &ShownWalk<'s, 'l>,
-) -> Result<Vec<ShownFrame<'s, 'l>>, AllocError>
-    ensures { IfOk result (λ frames. map shown_frame_of frames.items
-        ≡ printed_frames limits.now is_whole (shown_of walk.now)) }
+// Returns how many frames of a walk are printed at most.
+fn frame_limit(limits: &TextLimits, is_whole: bool) -> usize
+    ensures { result ≡ frame_limit limits.now is_whole }
 {
-    if is_whole {
-        walk.first_frames(alloc, limits.frames)
-    } else {
-        Vec::from_slice(alloc, first_of(walk.frames.as_slice(), 1))
-    }
+    if is_whole { limits.frames } else { 1 }
 }
 
 // ---- frames and the inlined calls there
@@ -295,7 +262,7 @@ fn printed_frames<'s, 'l>(
 // A frame, or an inlined call there.
 #[derive(Clone, Copy)]
 struct FrameEntry<'x> {
-    frame: &'x ShownFrame<'x, 'x>,
+    frame: &'x NamedFrame<'x>,
     call: Option<&'x InlinedCall<'x>>,
 }
 
@@ -303,10 +270,10 @@ struct FrameEntry<'x> {
 #[tactic(auto, unfolding(crate::specs::Threads::entries_in))]
 fn entries_in<'x>(
     alloc: Global,
-    frames: &'x [ShownFrame<'x, 'x>],
+    frames: &'x [NamedFrame<'x>],
 ) -> Result<Vec<FrameEntry<'x>>, AllocError>
     ensures { IfOk result
-        (λ entries. map entry_of entries.items ≡ entries_in (map shown_frame_of frames.now)) }
+        (λ entries. map entry_of entries.items ≡ entries_in (map named_of frames.now)) }
 {
     let mut entries = Vec::new(alloc);
     for frame in frames {
@@ -317,11 +284,11 @@ fn entries_in<'x>(
 }
 
 // Appends the inlined calls at a frame to a list.
-fn push_calls<'x>(entries: &mut Vec<FrameEntry<'x>>, frame: &'x ShownFrame<'x, 'x>) -> Added
+fn push_calls<'x>(entries: &mut Vec<FrameEntry<'x>>, frame: &'x NamedFrame<'x>) -> Added
     ensures { OnOk result (map entry_of entries.new.items
-        ≡ map entry_of entries.old.items ++ call_entries (shown_frame_of frame.now)) }
+        ≡ map entry_of entries.old.items ++ call_entries (named_of frame.now)) }
 {
-    for call in frame.inlines {
+    for call in frame.inlines.as_slice() {
         entries.push(FrameEntry {
             frame,
             call: Some(call),
@@ -429,8 +396,8 @@ fn found_text(trust: FrameTrust) -> &'static str
 // Appends how many frames are not printed, why the walk ends, and how many candidates follow.
 #[rattlefmt::skip]
 #[tactic(auto, unfolding(crate::specs::Threads::rest_lines))]
-fn push_rest(out: &mut String, limits: &TextLimits, walk: &ShownWalk<'_, '_>) -> Added
-    ensures { Adds out.old out.new (rest_lines limits.now (shown_of walk.now)) result }
+fn push_rest(out: &mut String, limits: &TextLimits, walk: &CrashWalk) -> Added
+    ensures { Adds out.old out.new (rest_lines limits.now (crash_walk_of walk.now)) result }
 {
     let count = walk.frames.len() + walk.candidates.len();
     let hidden = count.saturating_sub(limits.frames);
@@ -442,18 +409,18 @@ fn push_rest(out: &mut String, limits: &TextLimits, walk: &ShownWalk<'_, '_>) ->
 }
 
 // Returns why a walk ends, in words.
-fn end_text(end: SymbolWalkEnd) -> &'static str
+fn end_text(end: WalkEnd) -> &'static str
     ensures { result.now ≡ end_text end }
 {
     match end {
-        SymbolWalkEnd::Walk(WalkEnd::NoMemory) => "no memory of its stack",
-        SymbolWalkEnd::Walk(WalkEnd::UnknownWidth) => "unknown width of an address",
-        SymbolWalkEnd::Walk(WalkEnd::NoFramePointer) => "no frame pointer",
-        SymbolWalkEnd::Walk(WalkEnd::ZeroFramePointer) => "frame pointer of 0",
-        SymbolWalkEnd::Walk(WalkEnd::BelowStackPointer) => "frame pointer below the stack pointer",
-        SymbolWalkEnd::Walk(WalkEnd::NoRecord) => "no frame record at the frame pointer",
-        SymbolWalkEnd::Walk(WalkEnd::NoCode) => "no code at the return address",
-        SymbolWalkEnd::NoReturnRule => "no rule for the return address",
-        SymbolWalkEnd::ZeroReturnAddress => "return address of 0",
+        WalkEnd::NoMemory => "no memory of its stack",
+        WalkEnd::UnknownWidth => "unknown width of an address",
+        WalkEnd::NoFramePointer => "no frame pointer",
+        WalkEnd::ZeroFramePointer => "frame pointer of 0",
+        WalkEnd::BelowStackPointer => "frame pointer below the stack pointer",
+        WalkEnd::NoRecord => "no frame record at the frame pointer",
+        WalkEnd::NoCode => "no code at the return address",
+        WalkEnd::NoReturnRule => "no rule for the return address",
+        WalkEnd::ZeroReturnAddress => "return address of 0",
     }
 }

@@ -1,6 +1,6 @@
 -- What is found in the stack of a thread: its frames, each with its module, the candidates, and
 -- why there is no further caller.
-use Rattle.std.specs.Prelude.{ℕ, List, map, Option, Some}
+use Rattle.std.specs.Prelude.{ℕ, ◌++◌, List, map, Option, Some}
 use Rattle.std.specs.Option.{option_and_then, option_map, option_map_or}
 use Rattle.std.specs.Result.{result_ok}
 use Rattle.minidump.specs.declared.MinidumpContext.{MinidumpContext}
@@ -18,7 +18,7 @@ use Rattle.stack_walk.specs.Addresses.{code_bits}
 use Rattle.stack_walk.specs.Frames.{StackValue, stack_of, stack_pointer_in}
 use Rattle.stack_walk.specs.Lookups.{lookup_address, module_place}
 use Rattle.stack_walk.specs.Threads.{ProcessValue, stack_in, thread_stack}
-use Rattle.stack_walk.specs.Walk.{walk_in}
+use Rattle.stack_walk.specs.Walk.{WalkValue, walk_in}
 use Rattle.crash_threads.specs.declared.contexts.FoundContext.{FoundContext}
 use Rattle.crash_threads.specs.declared.frames.CrashFrame.{CrashFrame}
 use Rattle.crash_threads.specs.declared.frames.CrashWalk.{CrashWalk}
@@ -38,6 +38,10 @@ crash_walk_of w = record {
   candidates = w.candidates.items;
   end = w.end;
 }
+
+-- the frames, and the candidates after them
+abbrev pub all_frames : CrashWalkValue → List CrashFrame
+all_frames w = w.frames ++ w.candidates
 
 -- ---- frames
 
@@ -99,10 +103,14 @@ exception_walked c bits e = option_and_then (λ p. option_map
     (λ f. (stack_in p (memory_at p.memory (stack_pointer_in f.raw)), context_of f)) (context_at c e))
     (process_in c bits (Some e))
 
--- what is found in a stack by a context, with at most so many candidates, and with the module of each frame
-abbrev pub walk_from : ℕ → StackValue × MinidumpContext → CrashWalkValue
-walk_from scan w = let walk = walk_in w.0 w.1 scan in record {
-  frames = map (frame_in w.0) walk.frames;
-  candidates = map (frame_in w.0) walk.candidates;
-  end = walk.end;
+-- a walk of a stack, with the module of each frame
+abbrev pub walk_on : StackValue → WalkValue → CrashWalkValue
+walk_on s w = record {
+  frames = map (frame_in s) w.frames;
+  candidates = map (frame_in s) w.candidates;
+  end = w.end;
 }
+
+-- what is found in a stack by a context, with at most so many candidates
+abbrev pub walk_from : ℕ → StackValue × MinidumpContext → CrashWalkValue
+walk_from scan w = walk_on w.0 (walk_in w.0 w.1 scan)

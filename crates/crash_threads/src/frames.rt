@@ -1,30 +1,61 @@
-ghost use Rattle.std.specs.Prelude.{◌≡◌, IfOk, IsOkUnless, map};
+ghost use Rattle.std.specs.Prelude.{◌≡◌, ◌++◌, IfOk, IsOkUnless, map, take};
 ghost use Rattle.std.specs.Option.{option_copied, option_map};
 ghost use Rattle.minidump.specs.Promise.{exception_stream};
 ghost use Rattle.minidump.specs.Thread.{thread_of};
 ghost use Rattle.stack_walk.specs.Frames.{stack_of};
+ghost use Rattle.stack_walk.specs.Walk.{walk_of as found_of};
 ghost use Rattle.stack_walk.specs.Threads.{process_of};
 ghost use Rattle.crash_streams.specs.Contents.{contents_of};
-ghost use Rattle.crash_threads.specs.Frames.{code_bits_in, crash_walk_of, exception_walked};
-ghost use Rattle.crash_threads.specs.Frames.{frame_in, process_in, thread_walked, walk_from, walked_of};
+ghost use Rattle.crash_threads.specs.Frames.{all_frames, code_bits_in, crash_walk_of};
+ghost use Rattle.crash_threads.specs.Frames.{exception_walked, frame_in, process_in, thread_walked};
+ghost use Rattle.crash_threads.specs.Frames.{walk_from, walk_on, walked_of};
 
 use crate::contexts::{context_at, found_context};
 use crash_streams::Contents;
 use minidump::{Error, MinidumpContext, MinidumpException, MinidumpThread};
 use stack_walk::{
-    FrameTrust, Process, Stack, StackFrame, WalkEnd, code_bits, module_place, walk_stack,
+    FrameTrust, Process, Stack, StackFrame, Walk, WalkEnd, code_bits, module_place, walk_stack,
 };
 use std::alloc::{AllocError, Global};
 
 /// What is found in the stack of a thread.
 #[derive(Drop)]
 pub struct CrashWalk {
-    /// The frames: that of the context, and then its callers by frame pointers.
+    /// The frames: that of the context, and then its callers.
     pub frames: Vec<CrashFrame>,
     /// The link register, and words of the stack that may be return addresses, each of these once.
     pub candidates: Vec<CrashFrame>,
     /// Why the last of the frames has no caller.
     pub end: WalkEnd,
+}
+
+impl CrashWalk {
+    /// Finds the module of each frame of a walk of a stack.
+    ///
+    /// Returns `AllocError` if an allocation fails.
+    pub fn new(alloc: Global, stack: &Stack<'_, '_>, walk: &Walk) -> Result<CrashWalk, AllocError>
+        ensures { IfOk result (λ w. crash_walk_of w
+            ≡ walk_on (stack_of stack.now) (found_of walk.now)) }
+    {
+        Ok(CrashWalk {
+            frames: frames_in(alloc, stack, walk.frames.as_slice())?,
+            candidates: frames_in(alloc, stack, walk.candidates.as_slice())?,
+            end: walk.end,
+        })
+    }
+
+    /// Returns the first frames, and then the first candidates, at most `limit` in all.
+    #[tactic(auto, using(crate::proofs::FirstLemmas::first_of_both, std::proofs::lemmas::List::take_min))]
+    pub fn first(&self, limit: usize) -> (&[CrashFrame], &[CrashFrame])
+        ensures { result.0.now ++ result.1.now ≡ take limit (all_frames (crash_walk_of self.now)) }
+    {
+        let (frames, candidates) = (self.frames.as_slice(), self.candidates.as_slice());
+        let rest = limit.saturating_sub(frames.len());
+        (
+            &frames[..limit.min(frames.len())],
+            &candidates[..rest.min(candidates.len())],
+        )
+    }
 }
 
 /// A frame of a stack.
@@ -99,11 +130,7 @@ pub(crate) fn walk_of(
         return Ok(None);
     };
     let walk = walk_stack(alloc, &stack, &context, scan)?;
-    Ok(Some(CrashWalk {
-        frames: frames_in(alloc, &stack, walk.frames.as_slice())?,
-        candidates: frames_in(alloc, &stack, walk.candidates.as_slice())?,
-        end: walk.end,
-    }))
+    Ok(Some(CrashWalk::new(alloc, &stack, &walk)?))
 }
 
 // Returns frames, each with its module.
@@ -120,8 +147,8 @@ fn frames_in(
         .collect(alloc)
 }
 
-/// Returns a frame of a stack with the address by which it is looked up, and its place in a module.
-pub fn frame_in(stack: &Stack<'_, '_>, frame: &StackFrame) -> CrashFrame
+// Returns a frame of a stack with the address by which it is looked up, and its place in a module.
+fn frame_in(stack: &Stack<'_, '_>, frame: &StackFrame) -> CrashFrame
     ensures { result ≡ frame_in (stack_of stack.now) frame.now }
 {
     let address = frame.lookup_address(stack.cpu);

@@ -47,7 +47,7 @@ mod threads;
 pub use addresses::{AddressFacts, AddressMemory, MemoryRights};
 pub use cause::{CrashCause, CrashException, cause_of};
 pub use contexts::{ContextOrigin, ContextProblem, CrashContext, ShortContext, unaccepted_size};
-pub use frames::{CrashFrame, CrashWalk, frame_in};
+pub use frames::{CrashFrame, CrashWalk};
 pub use point::{CrashPoint, StackWord, point_of};
 pub use stacks::StackRange;
 pub use threads::{CrashThread, CrashThreads, threads_of, walked_at};

@@ -183,8 +183,10 @@ enum minidump_end {
     MINIDUMP_END_BELOW_STACK_POINTER = 5, /* it lies below the stack pointer */
     MINIDUMP_END_NO_RECORD = 6,           /* the stack doesn't hold both words at it, or they end at 2^64 or beyond, on 32 bits
                                            * at 2^32 or beyond */
-    MINIDUMP_END_NO_CODE = 7              /* the return address is 0, or neither a module nor memory that may be run contains
+    MINIDUMP_END_NO_CODE = 7,             /* the return address is 0, or neither a module nor memory that may be run contains
                                            * the address below it */
+    MINIDUMP_END_NO_RETURN_RULE = 8,      /* call frame information of symbols has no rule for the return address */
+    MINIDUMP_END_ZERO_RETURN_ADDRESS = 9  /* the return address is 0 by it. No call of this library reads symbols */
 };
 
 /* Where a text lies in the buffer of texts: how many bytes stand before it, and how many it has. That of an absent text has

@@ -27,6 +27,8 @@ end_number end.ZeroFramePointer = 4
 end_number end.BelowStackPointer = 5
 end_number end.NoRecord = 6
 end_number end.NoCode = 7
+end_number end.NoReturnRule = 8
+end_number end.ZeroReturnAddress = 9
 
 -- a frame's numbers: 0 for what it lacks, and its instruction where it has no address
 abbrev pub frame_row : CrashFrame → FrameRow

@@ -101,5 +101,7 @@ pub(crate) fn end_number(end: WalkEnd) -> u8
         WalkEnd::BelowStackPointer => 5,
         WalkEnd::NoRecord => 6,
         WalkEnd::NoCode => 7,
+        WalkEnd::NoReturnRule => 8,
+        WalkEnd::ZeroReturnAddress => 9,
     }
 }

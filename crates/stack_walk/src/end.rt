@@ -6,8 +6,8 @@ use crate::addresses::address_after;
 use crate::stack::record_of;
 use crate::{Stack, StackFrame};
 
-/// Why the last frame of a walk has no caller by its frame pointer: the first of these that holds.
-/// The frame pointer is taken without the mark of Swift.
+/// Why the last frame of a walk has no caller: by its frame pointer, which is taken without the mark
+/// of Swift, the first of these that holds, or one of the last two, by rules.
 #[derive(Clone, Copy, PartialEq, Eq)]
 pub enum WalkEnd {
     /// The dump has no memory of the stack.
@@ -29,6 +29,11 @@ pub enum WalkEnd {
     /// kept module contain it nor memory that may be run. On ARM of 32 bits bit 0 of the return
     /// address is cleared first, and on ARM64 the bits that may sign it.
     NoCode,
+    /// The symbol file of its module has rules for its address, but none for the return address, as
+    /// a thread's first function has none. No walk of this crate ends so.
+    NoReturnRule,
+    /// The return address is 0 by these rules. No walk of this crate ends so.
+    ZeroReturnAddress,
 }
 
 impl Stack<'_, '_> {

@@ -5,6 +5,8 @@ use Rattle.std.specs.Option.{option_and_then, option_map, option_map_or}
 use Rattle.minidump.specs.Below.Contexts.Context.{registers_of, valid_value_in}
 use Rattle.minidump.specs.declared.system_info.PointerWidth.{PointerWidth}
 use Rattle.minidump.specs.declared.system_info.PointerWidth.TheVariants.{Bits32, Bits64, Unknown}
+use Rattle.stack_walk.specs.declared.end.WalkEnd.{WalkEnd}
+use Rattle.stack_walk.specs.declared.end.WalkEnd.TheVariants.{NoReturnRule, ZeroReturnAddress}
 use Rattle.stack_walk.specs.declared.frame.FrameTrust.{FrameTrust}
 use Rattle.stack_walk.specs.declared.frame.FrameTrust.TheVariants.{Context, Cfi}
 use Rattle.stack_walk.specs.declared.frame.StackFrame.{StackFrame}
@@ -25,9 +27,6 @@ use Rattle.symbol_walk.specs.declared.registers.RegisterRole.TheVariants.{Saved,
 use Rattle.symbol_walk.specs.declared.rules.Return.{Return}
 use Rattle.symbol_walk.specs.declared.rules.Rules.{Rules}
 use Rattle.symbol_walk.specs.declared.rules.FrameState.{FrameState}
-use Rattle.symbol_walk.specs.declared.walk.SymbolWalkEnd.{SymbolWalkEnd}
-use Rattle.symbol_walk.specs.declared.walk.SymbolWalkEnd.TheVariants.{NoReturnRule}
-use Rattle.symbol_walk.specs.declared.walk.SymbolWalkEnd.TheVariants.{ZeroReturnAddress}
 use Rattle.symbol_walk.specs.Registers.{RegisterRow, known_by, known_frame_pointer, known_of}
 use Rattle.symbol_walk.specs.Registers.{known_stack_pointer, known_value, labelled_value, row_of}
 use Rattle.symbol_walk.specs.Symbols.{cfi_at, symbols_at}
@@ -98,7 +97,7 @@ returns r = option_and_then (λ frame. option_map
     (frame_address_at r.state r.cfi r.offset)
 
 -- why the walk ends by rules: they have none for the return address, or it is 0
-abbrev pub end_by : RulesValue → Option SymbolWalkEnd
+abbrev pub end_by : RulesValue → Option WalkEnd
 end_by r = if is_none (rule_at r.cfi (codes ".ra") r.offset) then Some NoReturnRule
     else (if option_map_or (λ back. back.return_address == 0) (returns r) false
     then Some ZeroReturnAddress else None)

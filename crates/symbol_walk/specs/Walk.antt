@@ -6,6 +6,7 @@ use Rattle.std.specs.List.{find}
 use Rattle.std.specs.Option.{option_and_then, option_map, option_map_or, option_or}
 use Rattle.minidump.specs.declared.MinidumpContext.{MinidumpContext}
 use Rattle.minidump.specs.Below.System.Cpu.{pointer_bytes}
+use Rattle.stack_walk.specs.declared.end.WalkEnd.{WalkEnd}
 use Rattle.stack_walk.specs.declared.frame.FrameTrust.{FrameTrust}
 use Rattle.stack_walk.specs.declared.frame.FrameTrust.TheVariants.{Context}
 use Rattle.stack_walk.specs.declared.frame.StackFrame.{StackFrame}
@@ -13,16 +14,12 @@ use Rattle.stack_walk.specs.Frames.{StackValue, callers_of, link_in, outermost, 
 use Rattle.stack_walk.specs.Frames.{word_candidate, word_candidates}
 use Rattle.stack_walk.specs.Frames.{caller_of as pointer_caller}
 use Rattle.stack_walk.specs.Lookups.{lookup_address}
-use Rattle.stack_walk.specs.Walk.{walk_end}
+use Rattle.stack_walk.specs.Walk.{WalkValue, walk_end}
 use Rattle.breakpad_symbols.specs.SymbolFile.{SymbolsValue}
-use Rattle.symbol_walk.specs.declared.walk.SymbolWalk.{SymbolWalk}
-use Rattle.symbol_walk.specs.declared.walk.SymbolWalkEnd.{SymbolWalkEnd}
-use Rattle.symbol_walk.specs.declared.walk.SymbolWalkEnd.TheVariants.{Walk}
 use Rattle.symbol_walk.specs.Registers.{register_table}
 use Rattle.symbol_walk.specs.Rules.{caller_by, end_by, goes_on, rules_at}
 use Rattle.symbol_walk.specs.Symbols.{function_at, symbols_at}
-use Rattle.symbol_walk.specs.Unwinder.{FrameValue, UnwinderValue, first_frame, frame_of}
-use Rattle.symbol_walk.specs.Unwinder.{pointer_frame}
+use Rattle.symbol_walk.specs.Unwinder.{FrameValue, UnwinderValue, first_frame, pointer_frame}
 
 -- ---- where a walk starts again: at a candidate whose call lies in a function of the symbols
 
@@ -65,7 +62,7 @@ restart_of u f = option_and_then (λ size. find (restarts u f)
 -- ---- the caller of a frame
 
 -- why the walk ends by the rules of a frame
-unfoldable pub end_by_rules : UnwinderValue → FrameValue → Option SymbolWalkEnd
+unfoldable pub end_by_rules : UnwinderValue → FrameValue → Option WalkEnd
 end_by_rules u f = option_and_then end_by (rules_at u f)
 
 -- the caller of a frame by its rules
@@ -83,8 +80,8 @@ caller_of u f = if is_some (end_by_rules u f) then None
     else option_or (caller_by_rules u f) (caller_without u f)
 
 -- why a frame has no caller
-abbrev pub end_of : UnwinderValue → FrameValue → SymbolWalkEnd
-end_of u f = unwrap_or (end_by_rules u f) (Walk (walk_end u.stack f.frame))
+abbrev pub end_of : UnwinderValue → FrameValue → WalkEnd
+end_of u f = unwrap_or (end_by_rules u f) (walk_end u.stack f.frame)
 
 -- ---- the callers
 
@@ -95,36 +92,22 @@ callers_in u = callers_of (caller_of u) (length (stack_bytes u.stack) + 1)
 
 -- ---- the walk
 
--- a walk: the frames, the candidates, and why the last of the frames has no caller
-pub record SymbolWalkValue : Type 0 where
-  pub frames : List FrameValue
-  pub candidates : List StackFrame
-  pub end : SymbolWalkEnd
-
--- the walk of a `SymbolWalk`
-abbrev pub symbol_walk_of : SymbolWalk → SymbolWalkValue
-symbol_walk_of w = record {
-  frames = map frame_of w.frames.items;
-  candidates = w.candidates.items;
-  end = w.end;
-}
-
 -- the frames without their registers
 abbrev pub plain_frames : List FrameValue → List StackFrame
 plain_frames frames = map (λ f. f.frame) frames
 
 -- the walk from a frame with this link register: it and its callers, the candidates of these, at
 -- most so many, and why there is no further caller
-abbrev pub walk_from : UnwinderValue → FrameValue → Option ℕ → ℕ → SymbolWalkValue
+abbrev pub walk_from : UnwinderValue → FrameValue → Option ℕ → ℕ → WalkValue
 walk_from u first link limit =
     let callers = callers_in u first in record {
-      frames = first ∷ callers;
+      frames = plain_frames (first ∷ callers);
       candidates = scan u.stack link (plain_frames (first ∷ callers)) limit;
       end = end_of u (outermost first callers);
     }
 
 -- the walk of a context on a stack, by the symbols of the modules
-abbrev pub symbol_walk_in : StackValue → List (Option SymbolsValue) → MinidumpContext → ℕ → SymbolWalkValue
+abbrev pub symbol_walk_in : StackValue → List (Option SymbolsValue) → MinidumpContext → ℕ → WalkValue
 symbol_walk_in s symbols c limit =
     walk_from (record { stack = s; symbols = symbols; registers = register_table c.raw })
     (first_frame c) (link_in c) limit

@@ -1,5 +1,5 @@
-//! Walks the stack of a thread by the symbols of its modules: its frames, each with what is known
-//! of its registers.
+//! Walks the stack of a thread by the symbols of its modules: its frames, the candidates of these,
+//! and why there is no further caller.
 //!
 //! - The first frame is that of the thread's context.
 //! - Its callers follow by the rules of their modules' symbol files: [`FrameTrust::Cfi`]. Where a
@@ -9,11 +9,12 @@
 //! - The walk ends where the rules say that a frame has no caller, or where neither its rules nor
 //!   its frame pointer nor the next words give one.
 //!
-//! [`walk_by_symbols`] finds the frames by a context and a [`Stack`].
+//! [`walk_by_symbols`] finds the [`Walk`] of a context on a [`Stack`].
 //!
 //! [`FrameTrust::Cfi`]: stack_walk::FrameTrust::Cfi
 //! [`FrameTrust::Scan`]: stack_walk::FrameTrust::Scan
 //! [`Stack`]: stack_walk::Stack
+//! [`Walk`]: stack_walk::Walk
 //!
 //! # The caller by rules
 //!
@@ -61,5 +62,4 @@ mod rules;
 mod scan;
 mod walk;
 
-pub use registers::KnownRegister;
-pub use walk::{KnownFrame, SymbolWalk, SymbolWalkEnd, function_at, plain_frames, walk_by_symbols};
+pub use walk::{function_at, walk_by_symbols};

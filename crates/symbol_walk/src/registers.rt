@@ -15,13 +15,12 @@ use minidump::{MinidumpContext, MinidumpRawContext};
 use stack_walk::StackFrame;
 use std::alloc::{AllocError, Global};
 
-/// A register of a frame whose value is known.
-#[derive(Clone, Copy, PartialEq, Eq)]
-pub struct KnownRegister {
-    /// The name that a context has for it.
-    pub name: &'static str,
-    /// Its value.
-    pub value: u64,
+// A register of a frame whose value is known.
+#[derive(Clone, Copy)]
+pub(crate) struct KnownRegister {
+    // the name that a context has for it
+    name: &'static str,
+    value: u64,
 }
 
 // A register of a processor.

@@ -12,11 +12,10 @@ use crate::registers::{
     KnownRegister, Register, RegisterRole, RegisterSource, known_by, known_frame_pointer,
     known_stack_pointer, known_value, labelled_value,
 };
-use crate::walk::{Unwinder, cfi_at};
-use crate::{KnownFrame, SymbolWalkEnd};
+use crate::walk::{KnownFrame, Unwinder, cfi_at};
 use breakpad_symbols::{AddressWidth, CfiRecord, UnwindState, evaluate};
 use minidump::system_info::PointerWidth;
-use stack_walk::{FrameTrust, Stack, StackFrame};
+use stack_walk::{FrameTrust, Stack, StackFrame, WalkEnd};
 use std::alloc::{AllocError, Global};
 
 // What rules refer to in a frame: its known registers, by their labels, and the words of the stack.
@@ -122,14 +121,14 @@ impl Rules<'_, '_, '_, '_> {
     }
 
     // Returns why the walk ends by the rules.
-    pub(crate) fn end(&self, alloc: Global) -> Result<Option<SymbolWalkEnd>, AllocError>
+    pub(crate) fn end(&self, alloc: Global) -> Result<Option<WalkEnd>, AllocError>
         ensures { IfOk result (λ end. end ≡ end_by (rules_of self.now)) }
     {
         if self.cfi.rule_at(b".ra", self.offset).is_none() {
-            return Ok(Some(SymbolWalkEnd::NoReturnRule));
+            return Ok(Some(WalkEnd::NoReturnRule));
         }
         match self.returns(alloc)? {
-            Some(back) if back.return_address == 0 => Ok(Some(SymbolWalkEnd::ZeroReturnAddress)),
+            Some(back) if back.return_address == 0 => Ok(Some(WalkEnd::ZeroReturnAddress)),
             _ => Ok(None),
         }
     }

@@ -1,58 +1,32 @@
 //! The walk of a context.
-ghost use Rattle.std.specs.Prelude.{◌≡◌, ◌++◌, ◌∷◌, [], IfOk, IsOkUnless, map};
+ghost use Rattle.std.specs.Prelude.{◌≡◌, ◌∷◌, IfOk, IsOkUnless, map};
 ghost use Rattle.std.specs.Option.{option_copied, option_map};
 ghost use Rattle.stack_walk.specs.Frames.{outermost, stack_of};
+ghost use Rattle.stack_walk.specs.Walk.{walk_of};
 ghost use Rattle.breakpad_symbols.specs.Cfi.{cfi_of};
 ghost use Rattle.breakpad_symbols.specs.Function.{function_of};
 ghost use Rattle.breakpad_symbols.specs.SymbolFile.{symbols_of};
 ghost use Rattle.symbol_walk.specs.Symbols.{cfi_at, function_at, symbols_at};
 ghost use Rattle.symbol_walk.specs.Unwinder.{frame_of, pointer_frame, unwinder_of};
 ghost use Rattle.symbol_walk.specs.Walk.{caller_of, caller_without, callers_in, end_by_rules};
-ghost use Rattle.symbol_walk.specs.Walk.{end_of, plain_frames, symbol_walk_in, symbol_walk_of};
-ghost use Rattle.symbol_walk.specs.Walk.{walk_from};
+ghost use Rattle.symbol_walk.specs.Walk.{end_of, plain_frames, symbol_walk_in, walk_from};
 
 use crate::registers::{KnownRegister, Register, RegisterSource, known_by, register_table};
 use breakpad_symbols::{CfiRecord, Function, SymbolFile};
 use minidump::{Error, MinidumpContext, Steps};
-use stack_walk::{Stack, StackFrame, WalkEnd, link_of, module_place};
+use stack_walk::{Stack, StackFrame, Walk, WalkEnd, link_of, module_place};
 use std::alloc::{AllocError, Global};
 
-/// Why the last frame of a walk by symbols has no caller.
-#[derive(Clone, Copy, PartialEq, Eq)]
-pub enum SymbolWalkEnd {
-    /// Neither its rules nor its frame pointer nor the next words of the stack give one. The value
-    /// says why its frame pointer gives none.
-    Walk(WalkEnd),
-    /// The symbols have rules for its address, but none for the return address, as a thread's first
-    /// function has none.
-    NoReturnRule,
-    /// The return address is 0 by its rules.
-    ZeroReturnAddress,
-}
-
-/// A frame, with what is known of its registers.
+// A frame, and the registers whose values are known, in the order of the processor.
 #[derive(Drop)]
-pub struct KnownFrame {
-    /// The frame.
-    pub frame: StackFrame,
-    /// The registers whose values are known, in the order of the processor.
-    pub registers: Vec<KnownRegister>,
-}
-
-/// The frames of a context by symbols, the candidates, and why there are no more callers.
-#[derive(Drop)]
-pub struct SymbolWalk {
-    /// The frame of the context and its callers, the innermost first.
-    pub frames: Vec<KnownFrame>,
-    /// The candidates of the frames: the link register of the context and words of the stack that
-    /// may be return addresses.
-    pub candidates: Vec<StackFrame>,
-    /// Why the last frame has no caller.
-    pub end: SymbolWalkEnd,
+pub(crate) struct KnownFrame {
+    pub(crate) frame: StackFrame,
+    pub(crate) registers: Vec<KnownRegister>,
 }
 
 /// Walks a stack from a context by the symbols of the modules. Returns the frame of the context,
-/// its callers, and at most `limit` candidates of these.
+/// its callers, at most `limit` candidates of these, and why there are no more callers: if neither
+/// rules nor the frame pointer nor the next words give one, why the frame pointer gives none.
 ///
 /// `symbols` has the symbols of each module at the index that the module has in the list of
 /// modules, or `None` if they aren't known. A shorter slice has none for the rest. The only error
@@ -63,8 +37,8 @@ pub fn walk_by_symbols(
     context: &MinidumpContext,
     symbols: &[Option<&SymbolFile<'_>>],
     limit: usize,
-) -> Result<SymbolWalk, Error>
-    ensures walk { IfOk result (λ walk. symbol_walk_of walk ≡ symbol_walk_in (stack_of stack.now)
+) -> Result<Walk, Error>
+    ensures walk { IfOk result (λ walk. walk_of walk ≡ symbol_walk_in (stack_of stack.now)
         (map (option_map (λ s. symbols_of s.now)) symbols.now) context.now limit) }
     ensures memory { IsOkUnless result Error.OutOfMemory }
 {
@@ -130,38 +104,37 @@ impl Unwinder<'_, '_, '_, '_> {
         first: KnownFrame,
         link: Option<u64>,
         limit: usize,
-    ) -> Result<SymbolWalk, AllocError>
-        ensures { IfOk result (λ walk. symbol_walk_of walk
+    ) -> Result<Walk, AllocError>
+        ensures { IfOk result (λ walk. walk_of walk
             ≡ walk_from (unwinder_of self.now) (frame_of first) link limit) }
     {
-        let (mut frames, last) = self.climb(alloc, first)?;
-        let end = self.end_of(alloc, &last)?;
-        frames.push(last)?;
-        let plain = plain_frames(alloc, frames.as_slice())?;
-        let candidates = self.stack.candidates(alloc, plain.as_slice(), link, limit)?;
-        Ok(SymbolWalk {
+        let (frames, last) = self.climb(alloc, first)?;
+        let candidates = self
+            .stack
+            .candidates(alloc, frames.as_slice(), link, limit)?;
+        Ok(Walk {
             frames,
             candidates,
-            end,
+            end: self.end_of(alloc, &last)?,
         })
     }
 
-    // Returns a frame and its callers: the last of all these apart, the others in a list.
+    // Returns a frame with its callers, and the last of them with its registers.
     fn climb(
         &self,
         alloc: Global,
         first: KnownFrame,
-    ) -> Result<(Vec<KnownFrame>, KnownFrame), AllocError>
-        ensures frames { IfOk result (λ climbed. map frame_of climbed.0.items
-            ++ (frame_of climbed.1 ∷ []) ≡ frame_of first
-            ∷ callers_in (unwinder_of self.now) (frame_of first)) }
+    ) -> Result<(Vec<StackFrame>, KnownFrame), AllocError>
+        ensures frames { IfOk result (λ climbed. climbed.0.items ≡ plain_frames (frame_of first
+            ∷ callers_in (unwinder_of self.now) (frame_of first))) }
         ensures last { IfOk result (λ climbed. frame_of climbed.1 ≡ outermost (frame_of first)
             (callers_in (unwinder_of self.now) (frame_of first))) }
     {
         let mut frames = Vec::new(alloc);
+        frames.push(first.frame)?;
         let mut last = first;
         while let Some(caller) = self.caller_of(alloc, &last)? {
-            frames.push(last)?;
+            frames.push(caller.frame)?;
             last = caller;
         }
         Ok((frames, last))
@@ -215,11 +188,7 @@ impl Unwinder<'_, '_, '_, '_> {
 
     // Returns why the walk ends by the rules of a frame.
     #[tactic(auto, unfolding(crate::specs::Walk::end_by_rules))]
-    fn end_by_rules(
-        &self,
-        alloc: Global,
-        known: &KnownFrame,
-    ) -> Result<Option<SymbolWalkEnd>, AllocError>
+    fn end_by_rules(&self, alloc: Global, known: &KnownFrame) -> Result<Option<WalkEnd>, AllocError>
         ensures { IfOk result
             (λ end. end ≡ end_by_rules (unwinder_of self.now) (frame_of known.now)) }
     {
@@ -230,23 +199,12 @@ impl Unwinder<'_, '_, '_, '_> {
     }
 
     // Returns why a frame has no caller.
-    fn end_of(&self, alloc: Global, known: &KnownFrame) -> Result<SymbolWalkEnd, AllocError>
+    fn end_of(&self, alloc: Global, known: &KnownFrame) -> Result<WalkEnd, AllocError>
         ensures { IfOk result (λ end. end ≡ end_of (unwinder_of self.now) (frame_of known.now)) }
     {
         match self.end_by_rules(alloc, known)? {
             Some(end) => Ok(end),
-            None => Ok(SymbolWalkEnd::Walk(self.stack.end_at(&known.frame))),
+            None => Ok(self.stack.end_at(&known.frame)),
         }
     }
-}
-
-/// Returns the frames without their registers. The only error is that no memory is left.
-pub fn plain_frames(alloc: Global, frames: &[KnownFrame]) -> Result<Vec<StackFrame>, AllocError>
-    ensures { IfOk result (λ plain. plain.items ≡ plain_frames (map frame_of frames.now)) }
-{
-    let mut plain = Vec::new(alloc);
-    for known in frames {
-        plain.push(known.frame)?;
-    }
-    Ok(plain)
 }

@@ -4,7 +4,7 @@ use Rattle.crash.specs.Crash.{CrashValue}
 use Rattle.crash_html.specs.Page.{page_with}
 use Rattle.crash_json.specs.declared.JsonLimits.{JsonLimits}
 use Rattle.crash_json.specs.Report as json
-use Rattle.crash_symbols.specs.Backtraces.{BacktraceValue, backtraces_in}
+use Rattle.crash_symbols.specs.Backtraces.{backtraces_in}
 use Rattle.crash_symbols.specs.Shown.{SymbolizedValue}
 use Rattle.crash_symbols.specs.Symbols.{KnownSymbols}
 use Rattle.crash_text.specs.declared.limits.TextLimits.{TextLimits}
@@ -43,9 +43,9 @@ form_in Html limits path symbols c = page_with (json_in limits path symbols c)
 
 -- ---- a crash with symbol files
 
--- what is known of symbol files, and backtraces, as they are shown
-abbrev pub shown_with : KnownSymbols → List (Option BacktraceValue) → SymbolizedValue
-shown_with known threads = record { states = known.states; threads = threads }
+-- what is known of symbol files, and the backtraces by them, with at most so many candidates each
+abbrev pub shown_by : CrashValue → KnownSymbols → ℕ → SymbolizedValue
+shown_by c known scan = record { known = known; threads = backtraces_in c known scan }
 
 -- a text is what is printed of a crash by symbol files: each file is that of its module, a module
 -- is said to have its symbols exactly where its file is known, and the backtraces are those that
@@ -54,5 +54,4 @@ pub record IsByFiles (form : Form) (limits : TextLimits) (scan : ℕ) (path : Li
     (printed : List ℕ) : Type 0 where
   pub known : KnownSymbols
   pub sound : IsSound c.modules.loaded known
-  pub same : printed ≡
-      form_in form limits path (Some (shown_with known (backtraces_in c known scan))) c
+  pub same : printed ≡ form_in form limits path (Some (shown_by c known scan)) c

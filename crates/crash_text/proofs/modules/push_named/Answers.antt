@@ -7,6 +7,6 @@ use Rattle.crash_text.proofs.modules.push_named.Goals as goal
 pub returns : goal.returns
 returns c =
     let all = take_all c.loop-index.index-index c.as_slice-index-items.result.now c.loop-index-test.false in
-    marked_lines c.args.page c.in_ok-marks.marks.items c.args.frames.now (string_bytes c.args.out.now) (string_bytes c.loop-index.out)
-    (rw c.as_slice-loaded.ensures.value at c.in_ok-marks.ensures)
+    marked_lines c.args.page c.in_ok-marks.marks.items (string_bytes c.args.out.now) (string_bytes c.loop-index.out)
+    (rw (c.as_slice-loaded.ensures.value, c.as_slice-threads.ensures.value) at c.in_ok-marks.ensures)
     (rw (all, c.as_slice-index-items.ensures.value) at c.loop-index.invariant)

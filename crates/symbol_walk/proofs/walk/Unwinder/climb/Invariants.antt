@@ -1,8 +1,8 @@
--- The frames so far, the last one and its callers are those of the first, and after each less of the stack is left.
-use Rattle.std.proofs.Common.{◌≡◌, ◌++◌, ◌∷◌, map}
+-- The frames so far and the callers of the last one are those of the first, and after each less of the stack is left.
+use Rattle.std.proofs.Common.{◌≡◌, ◌++◌, ◌∷◌}
 use Rattle.stack_walk.specs.Frames.{outermost}
 use Rattle.symbol_walk.specs.Unwinder.{frame_of, unwinder_of}
-use Rattle.symbol_walk.specs.Walk.{callers_in}
+use Rattle.symbol_walk.specs.Walk.{callers_in, plain_frames}
 use Rattle.symbol_walk.proofs.ReachLemmas.{left}
 use Rattle.symbol_walk.proofs.walk.Unwinder.climb.Given as goal
 
@@ -12,7 +12,7 @@ invariant-loop-last l =
     let first = frame_of l.fn.first in
     let last = frame_of l.last in
     record {
-      frames : map frame_of l.frames.items ++ (last ∷ callers_in u last) ≡ first ∷ callers_in u first;
+      frames : l.frames.items ++ plain_frames (callers_in u last) ≡ plain_frames (first ∷ callers_in u first);
       last : outermost last (callers_in u last) ≡ outermost first (callers_in u first);
     }
 

@@ -2,7 +2,7 @@
 use Rattle.std.proofs.Common.{rules}
 use Rattle.crash_json.specs.Tree.{count}
 use Rattle.crash_json.proofs.Tokens.{in_object, more, named}
-use Rattle.crash_json.proofs.frames.EachFrameNumberedJsonShownFrame.put_at.Goals as goal
+use Rattle.crash_json.proofs.frames.EachFrameNumberedJsonNamedFrame.put_at.Goals as goal
 
 pub returns : goal.returns
 returns c = record {

@@ -1,8 +1,0 @@
--- The frames so far.
-use Rattle.std.proofs.Common.{◌≡◌, map, take}
-use Rattle.symbol_walk.specs.Unwinder.{frame_of}
-use Rattle.symbol_walk.specs.Walk.{plain_frames}
-use Rattle.symbol_walk.proofs.walk.plain_frames.Given as goal
-
-abbrev pub invariant-loop-known : goal.invariant-loop-known
-invariant-loop-known l = l.plain.items ≡ plain_frames (map frame_of (take l.known-index l.frames))
