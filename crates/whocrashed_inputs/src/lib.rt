@@ -24,8 +24,10 @@
 //! - What is read of a file, or of standard input, has no more bytes than the limit: the `reads` of
 //!   [`Files`]. Of a reader whose bytes are known it is all of them, or nothing if they are more
 //!   than the limit: `read_to_limit`.
-//! - A symbol file says what its text says, and stands only at modules whose file it is: `kept`,
-//!   [`SymbolCache::find`]. The cache goes on to look in the same directories, with the same limit.
+//! - A symbol file says what its text says, and stands only at modules whose file it is; what is
+//!   known of modules that aren't looked for stays: `kept`, [`SymbolCache::find`]. The cache goes on
+//!   to look in the same directories, with the same limit. The path of a file in a directory is that
+//!   of the directory, a slash, and the file's: `path_in`.
 //!
 //! What isn't: the texts of the help, which file a path opens and which bytes it has, and in which
 //! directory a symbol file is found.
