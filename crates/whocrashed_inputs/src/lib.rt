@@ -21,9 +21,9 @@
 //!   for, or that with which the options are refused; or memory ran out: `IsErrorOf`.
 //! - The dumps are the values of the argument `DUMP`, and after them the paths of the list, both in
 //!   their order: [`dumps_in`].
-//! - What is read of a file, or of standard input, has no more bytes than the limit: the `reads` of
-//!   [`Files`]. Of a reader whose bytes are known it is all of them, or nothing if they are more
-//!   than the limit: `read_to_limit`.
+//! - What is read of a file or of standard input has no more bytes than the limit, by the `reads` of
+//!   [`Files`]; so has a symbol file, by `SymbolCache::read`. Of a reader whose bytes are known it is
+//!   all of them, or nothing if they are more than the limit: `read_to_limit`.
 //! - A symbol file says what its text says, and stands only at modules whose file it is; what is
 //!   known of modules that aren't looked for stays: `kept`, [`SymbolCache::find`]. The cache goes on
 //!   to look in the same directories, with the same limit. The path of a file in a directory is that

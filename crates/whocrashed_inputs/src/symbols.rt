@@ -1,5 +1,6 @@
-ghost use Rattle.std.specs.Prelude.{◌≡◌, ◌<◌, ◌++◌, ℕ, Contains, IfErr, IfOk, None, Some, codes};
-ghost use Rattle.std.specs.Prelude.{length, map, replicate, slice_get, slice_index, string_bytes, true};
+ghost use Rattle.std.specs.Prelude.{◌≡◌, ◌<◌, ◌≤◌, ◌++◌, ℕ, Contains, IfErr, IfOk, None, Some, codes};
+ghost use Rattle.std.specs.Prelude.{length, map, replicate, slice_get, slice_index, string_bytes};
+ghost use Rattle.std.specs.Prelude.{true, vec_len};
 ghost use Rattle.std.specs.List.{slice_set};
 ghost use Rattle.breakpad_symbols.specs.SymbolFile.{symbols_in, symbols_of};
 ghost use Rattle.crash_process.specs.Modules.{LoadedValue, loaded_of};
@@ -124,7 +125,9 @@ impl<'l> SymbolCache<'l> {
     }
 
     // Reads the file that has this path below the first directory that has one.
-    fn read(&self, path: &str) -> Result<Vec<u8>, NoSymbols> {
+    fn read(&self, path: &str) -> Result<Vec<u8>, NoSymbols>
+        ensures { IfOk result (λ text. vec_len text ≤ self.now.limit) }
+    {
         for dir in self.dirs {
             let Ok(path) = path_in(self.rt.alloc(), dir, path) else {
                 return Err(NoSymbols::OutOfMemory);
