@@ -1,6 +1,6 @@
-ghost use Rattle.std.specs.Prelude.{◌≡◌, ◌<◌, ◌≤◌, ◌++◌, ℕ, Contains, IfErr, IfOk, None, Some, codes};
-ghost use Rattle.std.specs.Prelude.{length, map, replicate, slice_get, slice_index, string_bytes};
-ghost use Rattle.std.specs.Prelude.{true, vec_len};
+ghost use Rattle.std.specs.Prelude.{◌≡◌, ◌<◌, ◌≤◌, ◌++◌, ℕ, Contains, IfErr, IfOk, None, Some};
+ghost use Rattle.std.specs.Prelude.{codes, length, map, replicate, slice_get, slice_index};
+ghost use Rattle.std.specs.Prelude.{string_bytes, true, vec_len};
 ghost use Rattle.std.specs.List.{slice_set};
 ghost use Rattle.breakpad_symbols.specs.SymbolFile.{symbols_in, symbols_of};
 ghost use Rattle.crash_process.specs.Modules.{LoadedValue, loaded_of};
