@@ -1,3 +1,5 @@
+mod OptionFacts
+pub mod OptionLemmas
 -- (cited by `whocrashed`)
 pub mod SymbolLemmas
 mod Utf8Lemmas

@@ -1,12 +1,14 @@
 -- What is known of the symbol files of modules, with one more that was looked for.
 use Rattle.std.proofs.Common.{◌≡◌, ◌≢◌, ◌∷◌, [], arith, ℕ, zero, suc, length, List, map, refl, replicate, true, Some, None}
 use Rattle.std.specs.Borrow.{Bor}
-use Rattle.std.specs.Prelude.{IfOk, is_some, slice_get, Result, Ok, Err}
+use Rattle.std.specs.Option.{option_map}
+use Rattle.std.specs.Prelude.{IfOk, is_some, slice_get, Option, Result, Ok, Err}
+use Rattle.std.specs.Result.{result_ok}
 use Rattle.std.specs.List.{AllZip, slice_set}
 use Rattle.std.proofs.lemmas.List.{map-set}
 use lib.LanesLaws.{map-replicate}
 use Rattle.std.proofs.lemmas.Option.{same_Some}
-use Rattle.breakpad_symbols.specs.SymbolFile.{symbols_of}
+use Rattle.breakpad_symbols.specs.SymbolFile.{SymbolsValue, symbols_of}
 use Rattle.breakpad_symbols.specs.declared.symbol_file.SymbolFile.{SymbolFile}
 use Rattle.crash_process.specs.Modules.{LoadedValue, loaded_of}
 use Rattle.crash_process.specs.declared.modules.CrashModule.{CrashModule}
@@ -16,7 +18,11 @@ use Rattle.crash_symbols.specs.declared.symbols.SymbolState.{SymbolState}
 use Rattle.crash_symbols.specs.declared.symbols.SymbolState.TheVariants.{Unwanted}
 use Rattle.whocrashed_inputs.specs.declared.symbols.NoSymbols.{NoSymbols}
 use Rattle.whocrashed_inputs.specs.declared.symbols.NoSymbols.TheVariants as reason
-use Rattle.whocrashed_inputs.specs.Symbols.{Belongs, IsAsked, IsSound, state_read, value_read}
+use Rattle.whocrashed_inputs.specs.Symbols.{Belongs, IsAsked, IsKept, IsSound, state_read}
+
+-- what a symbol file says that was looked for: nothing where there is none
+abbrev pub value_read : Result (Bor SymbolFile) NoSymbols → Option SymbolsValue
+value_read found = option_map (λ file. symbols_of file.now) (result_ok found)
 
 -- what was looked for is loaded exactly if it was found, and isn't unwanted
 found_tells : (found : Result (Bor SymbolFile) NoSymbols)
@@ -43,6 +49,14 @@ zip_set R (a ∷ xs) [] i y given each = absurd each
 zip_set R (a ∷ xs) (b ∷ ys) zero y given each = (given a refl, each.1)
 zip_set R (a ∷ xs) (b ∷ ys) (suc i) y given each = (each.0, zip_set R xs ys i y given each.1)
 
+-- the items of other indices stay
+get_set : {A : Type 0} (xs : List A) (i k : ℕ) (x : A) → k ≢ i → slice_get (slice_set xs i x) k ≡ slice_get xs k
+get_set [] i k x apart = refl
+get_set (y ∷ xs) zero zero x apart = absurd (apart refl)
+get_set (y ∷ xs) zero (suc k) x apart = refl
+get_set (y ∷ xs) (suc i) zero x apart = refl
+get_set (y ∷ xs) (suc i) (suc k) x apart = get_set xs i k x (λ e. apart (omega arith))
+
 -- a state that isn't unwanted takes a place
 state_set : (states : List SymbolState) (i k : ℕ) (state : SymbolState) → state ≢ Unwanted → (k ≢ i → IsAsked states k)
     → IsAsked (slice_set states i state) k
@@ -65,6 +79,10 @@ module _ (modules : List LoadedValue) (old new : KnownSymbols) (index : ℕ) (fo
   -- the module isn't unwanted, nor is one that wasn't
   pub asked_with : (k : ℕ) → (k ≢ index → IsAsked old.states k) → IsAsked new.states k
   asked_with k before = rw states (state_set old.states index k (state_read found) (found_tells found).1 before)
+
+  -- what is known of other modules stays
+  pub kept_with : (k : ℕ) → k ≢ index → IsKept old new k
+  kept_with k apart = (rw files (get_set old.files index k (value_read found) apart), rw states (get_set old.states index k (state_read found) apart))
 
 -- a list of copies is mapped to one of copies
 pub ruleset replicated = (map-replicate)

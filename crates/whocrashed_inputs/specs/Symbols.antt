@@ -3,8 +3,6 @@ use Rattle.std.specs.Prelude.{◌≡◌, ◌≢◌, ℕ, true, List, map, slice_
 use Rattle.std.specs.Prelude.{Option, Some, None, IfSome, is_some, Result, Ok, Err, if◌then◌else◌}
 use Rattle.std.specs.Borrow.{Bor}
 use Rattle.std.specs.List.{AllZip}
-use Rattle.std.specs.Option.{option_map}
-use Rattle.std.specs.Result.{result_ok}
 use Rattle.std.specs.declared.io.ErrorKind.{ErrorKind}
 use Rattle.std.specs.declared.io.ErrorKind.TheVariants as kind
 use Rattle.breakpad_symbols.specs.SymbolFile.{SymbolsValue, symbols_of}
@@ -41,11 +39,7 @@ IsNoFile symbols reason.Missing = ⊥
 IsNoFile symbols reason.Corrupt = symbols ≡ None
 IsNoFile symbols reason.OutOfMemory = ⊤
 
--- what a symbol file says that was looked for: nothing where there is none
-abbrev pub value_read : Result (Bor SymbolFile) NoSymbols → Option SymbolsValue
-value_read found = option_map (λ file. symbols_of file.now) (result_ok found)
-
--- its state
+-- the state of a symbol file that was looked for
 abbrev pub state_read : Result (Bor SymbolFile) NoSymbols → SymbolState
 state_read (Ok file) = Loaded
 state_read (Err why) = state_without why
@@ -69,3 +63,8 @@ pub record IsSound (modules : List LoadedValue) (known : KnownSymbols) : Type 0 
 -- the module of an index isn't unwanted
 abbrev pub IsAsked : List SymbolState → ℕ → Type 0
 IsAsked states index = slice_get states index ≢ Some Unwanted
+
+-- what is known of the module of an index stays: its symbol file, and its state
+abbrev pub IsKept : KnownSymbols → KnownSymbols → ℕ → Type 0
+IsKept old new index = (slice_get new.files index ≡ slice_get old.files index)
+    × (slice_get new.states index ≡ slice_get old.states index)

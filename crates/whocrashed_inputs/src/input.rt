@@ -1,4 +1,4 @@
-ghost use Rattle.std.specs.Prelude.{◌≡◌, ◌++◌, IfOk, IfSome, map, vec_items};
+ghost use Rattle.std.specs.Prelude.{◌≡◌, ◌≤◌, ◌++◌, IfOk, IfSome, map, vec_items, vec_len};
 ghost use Rattle.std.specs.Option.{option_map};
 ghost use Rattle.whocrashed_inputs.specs.Input.{asked_in, asked_of, by_argument, by_list, within};
 
@@ -89,10 +89,11 @@ pub struct Files<'l> {
 }
 
 impl ReadDumps for Files<'_> {
-    ghost use Rattle.std.specs.Prelude.{⊤};
+    ghost use Rattle.std.specs.Prelude.{◌≤◌, IfOk, IfSome, vec_len};
 
-    // the contracts of files don't say which bytes a file has
-    ghost reads = { λ _ _ _. ⊤ };
+    // no more bytes than the limit; the contracts of files don't say which bytes a file has
+    ghost reads = { λ files _ result. IfOk result
+        (λ read. IfSome read (λ bytes. vec_len bytes ≤ files.limit)) };
 
     fn read_file(&self, path: &str) -> io::Result<Option<Vec<u8>>> {
         read_file(self.rt, path, self.limit)
@@ -104,7 +105,9 @@ impl ReadDumps for Files<'_> {
 }
 
 /// Reads a file, or returns `None` if it has more bytes than the limit.
-pub(crate) fn read_file(rt: &HostRuntime, path: &str, limit: usize) -> io::Result<Option<Vec<u8>>> {
+pub(crate) fn read_file(rt: &HostRuntime, path: &str, limit: usize) -> io::Result<Option<Vec<u8>>>
+    ensures { IfOk result (λ read. IfSome read (λ bytes. vec_len bytes ≤ limit)) }
+{
     read_to_limit(rt.alloc(), File::open(rt, path)?, limit)
 }
 
@@ -114,8 +117,9 @@ fn read_to_limit<R: Read + Drop>(
     input: R,
     limit: usize,
 ) -> io::Result<Option<Vec<u8>>>
-    ensures { IfOk result (λ read. IfSome (R.remaining input)
+    ensures whole { IfOk result (λ read. IfSome (R.remaining input)
         (λ bytes. option_map vec_items read ≡ within limit bytes)) }
+    ensures bounded { IfOk result (λ read. IfSome read (λ bytes. vec_len bytes ≤ limit)) }
 {
     let mut bytes = Vec::new(alloc);
     input

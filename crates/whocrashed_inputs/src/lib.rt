@@ -14,17 +14,24 @@
 //!
 //! # What is proved
 //!
-//! - The options are those that the arguments ask for by some command of clap, each by the text
-//!   that clap found for it, and they are not refused ones: [`Options::read`], by `AreAskedFor` and
-//!   `is_refused`.
+//! - The options are those that the arguments ask for, by clap's rules and the options that clap is
+//!   told of, `whocrashed_app`: each is what its name has in `rows_in`. These arguments have no
+//!   fault, and these options aren't refused: [`Options::read`], by `AreOptions`, `faults_in` and
+//!   `refusal_in`. An error has the kind of a fault of the arguments, such as the help that they
+//!   ask for, or that with which the options are refused; or memory ran out: `IsErrorOf`.
 //! - The dumps are the values of the argument `DUMP`, and after them the paths of the list, both in
-//!   their order: [`dumps_in`]. What is read of a file is all of it, or nothing if it has more
-//!   bytes than the limit: `read_to_limit`.
-//! - A symbol file says what its text says, and stands only at modules whose file it is: `kept`,
-//!   [`SymbolCache::find`]. The cache goes on to look in the same directories, with the same limit.
+//!   their order: [`dumps_in`].
+//! - What is read of a file or of standard input has no more bytes than the limit, and a symbol
+//!   file no more than its own: the `reads` of [`Files`], `SymbolCache::read`. Of a reader whose
+//!   bytes are known it is all of them, or nothing if they are more than the limit:
+//!   `read_to_limit`.
+//! - A symbol file says what its text says, and stands only at modules whose file it is; what is
+//!   known of modules that aren't looked for stays: `kept`, [`SymbolCache::find`]. The cache goes
+//!   on to look in the same directories, with the same limit. The path of a file in a directory is
+//!   that of the directory, a slash, and the file's: `path_in`.
 //!
-//! What isn't: of which arguments clap is told, which file a path opens, and in which directory a
-//! symbol file is found.
+//! What isn't: the texts of the help, which file a path opens and which bytes it has, and in which
+//! directory a symbol file is found.
 #![tactic(auto)]
 
 mod input;

@@ -1,8 +1,12 @@
-ghost use Rattle.std.specs.Prelude.{◌≡◌, IfOk, false, is_some, map};
-ghost use Rattle.clap.specs.Words.{found_of};
-ghost use Rattle.clap.specs.declared.builder.command.Command.{Command};
-ghost use Rattle.whocrashed_inputs.specs.Options.{AreAskedFor, AreOptions, IsNumber, form_by};
-ghost use Rattle.whocrashed_inputs.specs.Options.{has_several_inputs, is_refused};
+ghost use Rattle.std.specs.Prelude.{◌≡◌, [], IfErr, IfNone, IfOk, IfSome, MatchOption, None, OnOk};
+ghost use Rattle.std.specs.Prelude.{false, map, option_map, true};
+ghost use Rattle.clap.specs.Kinds.{FailsBy};
+ghost use Rattle.clap.specs.Words.{app_of, found_of, kind_of, rows_of, rule_of};
+ghost use Rattle.whocrashed_inputs.specs.Options.{AreOptions, HasTwoForms, IsErrorOf, IsFlag};
+ghost use Rattle.whocrashed_inputs.specs.Options.{IsNumber, bare_app, dumps_rule, faults_in};
+ghost use Rattle.whocrashed_inputs.specs.Options.{has_several_inputs, is_html, is_json, refusal_in};
+ghost use Rattle.whocrashed_inputs.specs.Options.{row_rule, rows_in, rule_by, values_in};
+ghost use Rattle.whocrashed_inputs.specs.Options.{whocrashed_app, with_rules};
 
 use clap::error::ErrorKind;
 use clap::{Arg, ArgAction, ArgMatches, Command, Error, value_parser};
@@ -28,35 +32,38 @@ doesn't change it. If the pipe that is written to is closed, the run ends with t
 
 // What follows an option.
 enum Takes {
-    // nothing: it is a flag, and excludes these options
-    Nothing(&'static [&'static str]),
+    // nothing: it is a flag
+    Nothing,
     // a path, which the help calls so, each time that the option is given
     Paths(&'static str),
     // a number, which the help calls so, and the one that counts if the option isn't given
     Number(&'static str, &'static str),
 }
 
-// Each option: its name, what follows it, and what it asks for.
+// An option: its name, what follows it, and what it asks for.
+type Row = (&'static str, Takes, &'static str);
+
+// The options, in the order of the help.
 #[rattlefmt::skip]
-const OPTIONS: &[(&str, Takes, &str)] = &[
+const OPTIONS: &[Row] = &[
     ("symbols", Takes::Paths("DIR"),
         "Find and name frames by Breakpad's symbol files, DIR/NAME/ID/NAME.sym; of several DIRs the first that has a file counts"),
     ("symbols-limit", Takes::Number("BYTES", GIBIBYTE), "Read no symbol file with more than BYTES"),
     ("names", Takes::Paths("FILE"),
         "Add the names of codes in FILE; of two names of a code that of the last FILE counts"),
-    ("only-names", Takes::Nothing(&[]), "Leave out the names of codes that are compiled in"),
-    ("all-threads", Takes::Nothing(&[]), "Print all frames of each thread in the lines of text"),
-    ("lists", Takes::Nothing(&[]),
+    ("only-names", Takes::Nothing, "Leave out the names of codes that are compiled in"),
+    ("all-threads", Takes::Nothing, "Print all frames of each thread in the lines of text"),
+    ("lists", Takes::Nothing,
         "Print all streams, modules, regions of memory, handles and limits, and each frame's instruction, stack pointer and frame pointer, in the lines of text"),
-    ("modules", Takes::Nothing(&[]), "Print all modules in the lines of text, those that were unloaded too"),
-    ("handles", Takes::Nothing(&[]), "Print all handles in the lines of text"),
-    ("environment", Takes::Nothing(&[]), "Print the variables of Linux's environment, which may hold secrets"),
+    ("modules", Takes::Nothing, "Print all modules in the lines of text, those that were unloaded too"),
+    ("handles", Takes::Nothing, "Print all handles in the lines of text"),
+    ("environment", Takes::Nothing, "Print the variables of Linux's environment, which may hold secrets"),
     ("frames", Takes::Number("N", "64"), "Print at most N frames of a thread, its candidates included, where N is 1 or more"),
     ("scan", Takes::Number("N", "16"), "Print at most N candidates of a stack"),
-    ("json", Takes::Nothing(&[]), "Print a line of JSON for each DUMP"),
-    ("html", Takes::Nothing(&["json", "stdin-paths"]), "Print a page in HTML on the one DUMP"),
-    ("progress", Takes::Nothing(&[]), "Say on standard error how many dumps are done"),
-    ("stdin-paths", Takes::Nothing(&[]),
+    ("json", Takes::Nothing, "Print a line of JSON for each DUMP"),
+    ("html", Takes::Nothing, "Print a page in HTML on the one DUMP"),
+    ("progress", Takes::Nothing, "Say on standard error how many dumps are done"),
+    ("stdin-paths", Takes::Nothing,
         "Take paths of dumps from standard input too, with NULs or else line feeds between them"),
     ("limit", Takes::Number("BYTES", GIBIBYTE), "Read no dump, and no list of paths, with more than BYTES"),
 ];
@@ -116,40 +123,48 @@ impl<'w> Options<'w> {
     /// Reads the arguments, without the program's own name. Returns clap's error if they are
     /// malformed or refused, and if they ask for the help or the version.
     pub fn read(alloc: Global, words: &'w [String]) -> Result<Options<'w>, Error>
-        ensures asked { IfOk result (λ options. (command : Command)
-            × AreAskedFor command words.entry.now options) }
-        ensures accepted { IfOk result (λ options. is_refused options.form options.frames
-            (map (λ p. p.now) options.dumps.items) options.are_listed ≡ false) }
+        ensures formed { OnOk result (faults_in words.entry.now ≡ []) }
+        ensures asked { IfOk result (λ options. AreOptions (rows_in words.entry.now) options) }
+        ensures accepted { IfOk result (λ options. refusal_in options ≡ None) }
+        ensures why { IfErr result (λ error. IsErrorOf words.entry.now (kind_of error)) }
     {
-        read_by(alloc, &mut command(alloc)?, words)
+        let (mut command, matches) = parsed(alloc, words)?;
+        let Some(options) = options_of(alloc, &matches)? else {
+            return Err(command.error(ErrorKind::ArgumentConflict, "--html excludes --json")?);
+        };
+        match refusal(&options) {
+            Some((kind, why)) => Err(command.error(kind, why)?),
+            None => Ok(options),
+        }
     }
 }
 
-// Reads the arguments by the command.
-fn read_by<'w>(
-    alloc: Global,
-    command: &mut Command<'w>,
-    words: &'w [String],
-) -> Result<Options<'w>, Error>
-    ensures asked { IfOk result (λ options. AreAskedFor command.old words.entry.now options) }
-    ensures accepted { IfOk result (λ options. is_refused options.form options.frames
-        (map (λ p. p.now) options.dumps.items) options.are_listed ≡ false) }
+// Makes the command, and has it parse the arguments.
+fn parsed<'w>(alloc: Global, words: &'w [String]) -> Result<(Command<'w>, ArgMatches<'w>), Error>
+    ensures fails { FailsBy (faults_in words.entry.now) result }
+    ensures found { IfOk result (λ pair. rows_of (found_of pair.1) ≡ rows_in words.entry.now) }
 {
+    let mut command = command(alloc)?;
     let matches = command.try_get_matches_from_mut(words)?;
-    let options = options_of(alloc, &matches)?;
-    match refusal(&options) {
-        Some((kind, why)) => Err(command.error(kind, why)?),
-        None => Ok(options),
-    }
+    Ok((command, matches))
 }
 
 // Returns why options that were read are refused, or `None` if they are not.
 fn refusal(options: &Options<'_>) -> Option<(ErrorKind, &'static str)>
-    ensures { is_some result ≡ is_refused options.now.form options.now.frames
-        (map (λ p. p.now) options.now.dumps.items) options.now.are_listed }
+    ensures { option_map (λ why. why.0) result ≡ refusal_in options.now }
 {
-    if matches!(options.form, Form::Html) && options.dumps.len() > 1 {
+    let is_html = matches!(options.form, Form::Html);
+    if is_html && options.are_listed {
+        return Some((ErrorKind::ArgumentConflict, "--html excludes --stdin-paths"));
+    }
+    if is_html && options.dumps.len() > 1 {
         return Some((ErrorKind::TooManyValues, "--html takes one DUMP"));
+    }
+    if options.dumps.is_empty() && !options.are_listed {
+        return Some((
+            ErrorKind::MissingRequiredArgument,
+            "no DUMP is given, and no --stdin-paths",
+        ));
     }
     if has_several_inputs(options.dumps.as_slice(), options.are_listed) {
         return Some((
@@ -172,78 +187,147 @@ fn has_several_inputs(paths: &[&str], are_listed: bool) -> bool
     inputs > 1 || inputs == 1 && are_listed
 }
 
-// Returns what the matches ask for.
-fn options_of<'w>(alloc: Global, matches: &ArgMatches<'w>) -> Result<Options<'w>, AllocError>
-    ensures { IfOk result (λ options. AreOptions (found_of matches.now) options) }
+// Returns what the matches ask for, or `None` if they ask for two forms.
+fn options_of<'w>(
+    alloc: Global,
+    matches: &ArgMatches<'w>,
+) -> Result<Option<Options<'w>>, AllocError>
+    ensures { IfOk result (λ read. MatchOption read
+        (HasTwoForms (rows_of (found_of matches.now)))
+        (AreOptions (rows_of (found_of matches.now)))) }
 {
-    let names = Vec::from_slice(alloc, matches.get_strs("names").unwrap_or(&[]))?;
-    let symbols = Vec::from_slice(alloc, matches.get_strs("symbols").unwrap_or(&[]))?;
-    let dumps = Vec::from_slice(alloc, matches.get_strs("dumps").unwrap_or(&[]))?;
-    Ok(Options {
-        form: form_by(matches.get_flag("json"), matches.get_flag("html")),
+    let Some(form) = form_by(flag_of(matches, "json"), flag_of(matches, "html")) else {
+        return Ok(None);
+    };
+    let names = values_of(alloc, matches, "names")?;
+    let symbols = values_of(alloc, matches, "symbols")?;
+    let dumps = values_of(alloc, matches, "dumps")?;
+    Ok(Some(Options {
+        form,
         frames: number_of(matches, "frames"),
-        all_threads: matches.get_flag("all-threads"),
-        lists: matches.get_flag("lists"),
-        modules: matches.get_flag("modules"),
-        handles: matches.get_flag("handles"),
-        environment: matches.get_flag("environment"),
+        all_threads: flag_of(matches, "all-threads"),
+        lists: flag_of(matches, "lists"),
+        modules: flag_of(matches, "modules"),
+        handles: flag_of(matches, "handles"),
+        environment: flag_of(matches, "environment"),
         scan: number_of(matches, "scan"),
         names,
-        only_names: matches.get_flag("only-names"),
+        only_names: flag_of(matches, "only-names"),
         symbols,
         symbols_limit: number_of(matches, "symbols-limit"),
-        shows_progress: matches.get_flag("progress"),
+        shows_progress: flag_of(matches, "progress"),
         dumps,
-        are_listed: matches.get_flag("stdin-paths"),
+        are_listed: flag_of(matches, "stdin-paths"),
         limit: number_of(matches, "limit"),
-    })
+    }))
 }
 
-// Returns the form that the flags `--json` and `--html` ask for, which exclude one another.
-fn form_by(json: bool, html: bool) -> Form
-    ensures { result ≡ form_by json html }
+// Returns the form that the flags `--json` and `--html` ask for, or `None` if both are set.
+fn form_by(json: bool, html: bool) -> Option<Form>
+    ensures form { IfSome result (λ form. (is_json form ≡ json) × (is_html form ≡ html)) }
+    ensures none { IfNone result ((json ≡ true) × (html ≡ true)) }
 {
-    if json {
-        Form::Json
-    } else if html {
-        Form::Html
-    } else {
-        Form::Lines
+    match (json, html) {
+        (false, false) => Some(Form::Lines),
+        (true, false) => Some(Form::Json),
+        (false, true) => Some(Form::Html),
+        (true, true) => None,
     }
+}
+
+// Returns the values of an argument.
+#[tactic(auto, using(crate::proofs::OptionLemmas::reads_rows))]
+fn values_of<'w>(
+    alloc: Global,
+    matches: &ArgMatches<'w>,
+    id: &str,
+) -> Result<Vec<&'w str>, AllocError>
+    ensures { IfOk result (λ values. map (λ v. v.now) values.items
+        ≡ values_in (rows_of (found_of matches.now)) id.now) }
+{
+    Vec::from_slice(alloc, matches.get_strs(id).unwrap_or(&[]))
+}
+
+// Tells whether a flag is set.
+#[tactic(auto, using(crate::proofs::OptionLemmas::reads_rows))]
+fn flag_of(matches: &ArgMatches<'_>, id: &str) -> bool
+    ensures { IsFlag (rows_of (found_of matches.now)) id.now result }
+{
+    matches.get_flag(id)
 }
 
 // Returns the number of an option. clap has a default for each, and returns an error for a text
 // that is no number.
+#[tactic(auto, using(crate::proofs::OptionLemmas::reads_rows))]
 fn number_of(matches: &ArgMatches<'_>, id: &str) -> usize
-    ensures { IsNumber (found_of matches.now) id.now result }
+    ensures { IsNumber (rows_of (found_of matches.now)) id.now result }
 {
     matches.get_one::<usize>(id).unwrap_or(0)
 }
 
 // Makes the command, which knows the options and the dumps.
-fn command<'w>(alloc: Global) -> Result<Command<'w>, AllocError> {
-    let mut command = Command::new(alloc, "whocrashed")
+fn command<'w>(alloc: Global) -> Result<Command<'w>, AllocError>
+    ensures { IfOk result (λ command. app_of command ≡ whocrashed_app) }
+{
+    with_options(alloc, bare_command(alloc), OPTIONS)?.arg(dumps_of(alloc))
+}
+
+// Makes the command before it is told of its options.
+fn bare_command<'w>(alloc: Global) -> Command<'w>
+    ensures { app_of result ≡ bare_app }
+{
+    Command::new(alloc, "whocrashed")
         .no_binary_name(true)
         .version("0.27.0+rattle.1")
         .about(ABOUT)
-        .after_help(EXAMPLES);
-    for (name, takes, help) in OPTIONS {
-        let arg = Arg::new(alloc, *name).long(*name).help(*help);
-        command = command.arg(match takes {
-            Takes::Nothing(others) => arg.action(ArgAction::SetTrue).conflicts_with_all(*others)?,
-            Takes::Paths(value) => arg.value_name(*value).action(ArgAction::Append),
-            Takes::Number(value, default) => arg
-                .value_name(*value)
-                .value_parser(value_parser!(usize))
-                .default_value(*default),
-        })?;
+        .after_help(EXAMPLES)
+}
+
+// Tells the command of options.
+fn with_options<'w>(
+    alloc: Global,
+    command: Command<'w>,
+    options: &'static [Row],
+) -> Result<Command<'w>, AllocError>
+    ensures { IfOk result (λ told. app_of told
+        ≡ with_rules (app_of command.entry) (map row_rule options.now)) }
+{
+    let mut told = command;
+    for (name, takes, help) in options {
+        told = told.arg(option_of(alloc, *name, takes, *help))?;
     }
-    command.arg(
-        Arg::new(alloc, "dumps")
-            .value_name("DUMP")
-            .help("A minidump, or - for the one on standard input")
-            .action(ArgAction::Append)
-            .num_args(1..)
-            .required_unless_present("stdin-paths")?,
-    )
+    Ok(told)
+}
+
+// Returns an option, for clap.
+fn option_of<'w>(
+    alloc: Global,
+    name: &'static str,
+    takes: &'static Takes,
+    help: &'static str,
+) -> Arg<'w>
+    ensures rule { rule_of result ≡ rule_by name.entry.now takes.entry.now }
+    ensures local { result.global ≡ false }
+{
+    let arg = Arg::new(alloc, name).long(name).help(help);
+    match takes {
+        Takes::Nothing => arg.action(ArgAction::SetTrue),
+        Takes::Paths(value) => arg.value_name(*value).action(ArgAction::Append),
+        Takes::Number(value, default) => arg
+            .value_name(*value)
+            .value_parser(value_parser!(usize))
+            .default_value(*default),
+    }
+}
+
+// Returns the argument DUMP, for clap.
+fn dumps_of<'w>(alloc: Global) -> Arg<'w>
+    ensures rule { rule_of result ≡ dumps_rule }
+    ensures local { result.global ≡ false }
+{
+    Arg::new(alloc, "dumps")
+        .value_name("DUMP")
+        .help("A minidump, or - for the one on standard input")
+        .action(ArgAction::Append)
+        .num_args(1..)
 }

@@ -1,11 +1,12 @@
-ghost use Rattle.std.specs.Prelude.{◌≡◌, ◌<◌, ℕ, IfErr, IfOk, None, Some, length, map, replicate};
-ghost use Rattle.std.specs.Prelude.{slice_get, slice_index, true};
+ghost use Rattle.std.specs.Prelude.{◌≡◌, ◌<◌, ◌≤◌, ◌++◌, ℕ, Contains, IfErr, IfOk, None, Some};
+ghost use Rattle.std.specs.Prelude.{codes, length, map, replicate, slice_get, slice_index};
+ghost use Rattle.std.specs.Prelude.{string_bytes, true, vec_len};
 ghost use Rattle.std.specs.List.{slice_set};
 ghost use Rattle.breakpad_symbols.specs.SymbolFile.{symbols_in, symbols_of};
 ghost use Rattle.crash_process.specs.Modules.{LoadedValue, loaded_of};
 ghost use Rattle.crash_symbols.specs.Modules.{is_of_module};
 ghost use Rattle.crash_symbols.specs.Symbols.{known_of};
-ghost use Rattle.whocrashed_inputs.specs.Symbols.{IsAsked, IsNoFile, IsSound, of_module};
+ghost use Rattle.whocrashed_inputs.specs.Symbols.{IsAsked, IsKept, IsNoFile, IsSound, of_module};
 ghost use Rattle.whocrashed_inputs.specs.Symbols.{state_of_kind, state_read, state_without};
 
 use crate::input::read_file;
@@ -62,6 +63,7 @@ impl<'l> SymbolCache<'l> {
     /// Looks for the symbol files of the modules with these indices, and puts what is found into
     /// `symbols`. Afterwards none of these modules is `Unwanted`. If before each known file is that
     /// of its module, and exactly the modules with a known file are `Loaded`, so it is afterwards.
+    /// What is known of other modules stays.
     pub fn find(
         &mut self,
         modules: &[CrashModule],
@@ -72,6 +74,8 @@ impl<'l> SymbolCache<'l> {
             → IsSound (map loaded_of modules.now) (known_of symbols.new) }
         ensures asked { (j : ℕ) → j < length wanted.now
             → IsAsked (known_of symbols.new).states (slice_index wanted.now j) }
+        ensures others { (k : ℕ) → ¬ Contains wanted.now k
+            → IsKept (known_of symbols.old) (known_of symbols.new) k }
         ensures dirs { self.new.dirs ≡ self.old.dirs }
         ensures limit { self.new.limit ≡ self.old.limit }
     {
@@ -121,9 +125,11 @@ impl<'l> SymbolCache<'l> {
     }
 
     // Reads the file that has this path below the first directory that has one.
-    fn read(&self, path: &str) -> Result<Vec<u8>, NoSymbols> {
+    fn read(&self, path: &str) -> Result<Vec<u8>, NoSymbols>
+        ensures { IfOk result (λ text. vec_len text ≤ self.now.limit) }
+    {
         for dir in self.dirs {
-            let Ok(path) = format!(in self.rt.alloc(); "{dir}/{path}") else {
+            let Ok(path) = path_in(self.rt.alloc(), dir, path) else {
                 return Err(NoSymbols::OutOfMemory);
             };
             match read_file(self.rt, path.as_str(), self.limit) {
@@ -137,6 +143,13 @@ impl<'l> SymbolCache<'l> {
         }
         Err(NoSymbols::Missing)
     }
+}
+
+// Returns the path of what has a path below a directory.
+fn path_in(alloc: Global, dir: &str, path: &str) -> Result<String, AllocError>
+    ensures { IfOk result (λ joined. string_bytes joined ≡ dir.now ++ (codes "/" ++ path.now)) }
+{
+    format!(in alloc; "{dir}/{path}")
 }
 
 // Reads a symbol file from a text, which is kept until the run ends, as it is itself.

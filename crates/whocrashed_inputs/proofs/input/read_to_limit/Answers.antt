@@ -14,8 +14,8 @@ read_within (Some xs) most limit bytes same short fits =
     let whole : bytes ≡ xs = same ∙ take_all most xs (grind (arith, common_steps, len)) in
     grind (arith, common_steps, whole)
 
-pub returns-else-len-limit : goal.returns-else-len-limit
-returns-else-len-limit g c =
+pub returns-else-len-limit-clause-whole : goal.returns-else-len-limit-clause-whole
+returns-else-len-limit-clause-whole g c =
     let vec = c.read_to_end.new.buf.ok in
     read_within (g.R.Read.remaining c.args.input) _ c.args.limit _
     (rw (c.take.ensures.inner, c.new-bytes.ensures.items) at c.in_ok-read_to_end.ensures.bytes)
