@@ -1,7 +1,7 @@
 -- The status of the program: by what was read at a path, of a run, and by arguments that give no
 -- options.
 use Rattle.std.specs.Prelude.{◌≡◌, ◌≤◌, ◌⊎◌, ℕ, Bool, true, false, List, [], ◌∷◌, ◌++◌, All, Contains}
-use Rattle.std.specs.Prelude.{IfOk, map, take, Option, None, Some, Result, Ok, Err, String}
+use Rattle.std.specs.Prelude.{IfErr, IfOk, map, take, Option, None, Some, Result, Ok, Err, String}
 use Rattle.std.specs.List.{AllZip}
 use Rattle.std.specs.Global.{Global, Vec}
 use Rattle.std.specs.IoError.{error_kind}
@@ -9,14 +9,13 @@ use Rattle.std.specs.declared.io.Error.{Error as IoError}
 use Rattle.std.specs.declared.io.ErrorKind.{ErrorKind as IoKind}
 use Rattle.std.specs.declared.io.ErrorKind.TheVariants as cause
 use Rattle.clap.specs.Words.{kind_of}
-use Rattle.clap.specs.declared.builder.command.Command.{Command}
 use Rattle.clap.specs.declared.error.Error.{Error}
 use Rattle.clap.specs.declared.error.kind.ErrorKind.{ErrorKind}
 use Rattle.clap.specs.declared.error.kind.ErrorKind.TheVariants as kind
 use Rattle.minidump.specs.Below.Reasons.Names.{Lists}
 use Rattle.crash.specs.Crash.{crash_in, status_of}
 use Rattle.whocrashed_inputs.specs.Input.{Asked, Input, Malformed, asked_in, by_argument}
-use Rattle.whocrashed_inputs.specs.Options.{AreAskedFor}
+use Rattle.whocrashed_inputs.specs.Options.{AreOptions, IsErrorOf, rows_in}
 use Rattle.whocrashed_inputs.specs.declared.options.Options.{Options}
 
 -- the status by what was read of a dump: that of the crash that its bytes hold, with the names of
@@ -120,9 +119,10 @@ IsStatusOf reads read (Some error) status = (count : ℕ) × (before : ℕ)
     × IsOfArguments reads (take count) read before
     × (status ≡ status_after (error_kind error) before)
 
--- the status of a run by its words: that of options that they ask for, or of an error of clap's
+-- the status of a run by its words: that of the options that they ask for, or of an error that they
+-- may have
 abbrev pub IsRunOf : {E : Type 0} → (Asked → Result (Option (Vec ℕ)) E → Type 0)
     → List (String Global) → Option IoError → ℕ → Type 0
 IsRunOf reads words failure status = (read : Result Options Error)
-    × IfOk read (λ options. (command : Command) × AreAskedFor command words options)
+    × IfOk read (AreOptions (rows_in words)) × IfErr read (λ error. IsErrorOf words (kind_of error))
     × IsStatusOf reads read failure status
