@@ -32,3 +32,7 @@ module _ (may : Asked → ℕ → Type 0) (first : ℕ) where
     All-push (λ other. other ≤ max n m) (first ∷ statuses) m
         (All-weaker (λ other. other ≤ n) (λ other. other ≤ max n m) (λ other h. grind (arith)) (first ∷ statuses) greatest) (grind (arith)),
   )
+
+  -- of the first ones of a list, which is another
+  pub of_first : (count : ℕ) (xs ys : List Asked) (n : ℕ) → xs ≡ ys → IsGreatest may first (take count xs) n → IsGreatest may first (take count ys) n
+  of_first count xs ys n same greatest = subst (λ ds. IsGreatest may first (take count ds) n) same greatest

@@ -1,16 +1,23 @@
 -- The status of the program: by what was read at a path, of a run, and by arguments that give no
 -- options.
-use Rattle.std.specs.Prelude.{◌≡◌, ◌≤◌, ◌⊎◌, ℕ, Bool, true, false, List, [], ◌∷◌, All, Contains}
-use Rattle.std.specs.Prelude.{Option, Some, Result, Ok}
+use Rattle.std.specs.Prelude.{◌≡◌, ◌≤◌, ◌⊎◌, ℕ, Bool, true, false, List, [], ◌∷◌, ◌++◌, All, Contains}
+use Rattle.std.specs.Prelude.{IfOk, map, take, Option, None, Some, Result, Ok, Err, String}
 use Rattle.std.specs.List.{AllZip}
-use Rattle.std.specs.Global.{Vec}
+use Rattle.std.specs.Global.{Global, Vec}
+use Rattle.std.specs.IoError.{error_kind}
+use Rattle.std.specs.declared.io.Error.{Error as IoError}
 use Rattle.std.specs.declared.io.ErrorKind.{ErrorKind as IoKind}
 use Rattle.std.specs.declared.io.ErrorKind.TheVariants as cause
+use Rattle.clap.specs.Words.{kind_of}
+use Rattle.clap.specs.declared.builder.command.Command.{Command}
+use Rattle.clap.specs.declared.error.Error.{Error}
 use Rattle.clap.specs.declared.error.kind.ErrorKind.{ErrorKind}
 use Rattle.clap.specs.declared.error.kind.ErrorKind.TheVariants as kind
 use Rattle.minidump.specs.Below.Reasons.Names.{Lists}
 use Rattle.crash.specs.Crash.{crash_in, status_of}
-use Rattle.whocrashed_inputs.specs.Input.{Asked, Input, Malformed}
+use Rattle.whocrashed_inputs.specs.Input.{Asked, Input, Malformed, asked_in, by_argument}
+use Rattle.whocrashed_inputs.specs.Options.{AreAskedFor}
+use Rattle.whocrashed_inputs.specs.declared.options.Options.{Options}
 
 -- the status by what was read of a dump: that of the crash that its bytes hold, with the names of
 -- codes of these lists and at most so many candidates a thread; 1 where it has more bytes than the
@@ -70,3 +77,52 @@ status_of_kind kind.DisplayHelp = 0
 status_of_kind kind.DisplayVersion = 0
 status_of_kind kind.OutOfMemory = 1
 status_of_kind _ = 2
+
+-- ---- of a run
+
+-- the dumps that options ask for: those of the arguments, and then those of a list of paths
+abbrev pub dumps_by : Options → List ℕ → List Asked
+dumps_by options list = map (λ a. by_argument a.now) options.dumps.items ++ asked_in list
+
+-- `reads` says what reading a dump or the list of paths may return, and `part` on which of the
+-- dumps that are asked for there was a report
+module _ {E : Type 0} (reads : Asked → Result (Option (Vec ℕ)) E → Type 0)
+    (part : List Asked → List Asked) where
+  -- a status is the greatest of those dumps', with these names of codes, and of what it was before;
+  -- or of 1, where the list of paths can't be read or is too large
+  abbrev pub IsOfDumps : Lists → Options → ℕ → ℕ → Type 0
+  IsOfDumps names options old status = (list : List ℕ) × (first : ℕ)
+      × IsListOf reads options.are_listed old list first
+      × IsGreatest (MayHave reads names options.scan) first (part (dumps_by options list)) status
+
+  -- a status is that of options, with some names of codes
+  abbrev pub IsOfOptions : Options → ℕ → Type 0
+  IsOfOptions options status = (names : Lists) × IsOfDumps names options 0 status
+
+  -- a status is that by what reading the arguments returned: options, or clap's error
+  abbrev pub IsOfArguments : Result Options Error → ℕ → Type 0
+  IsOfArguments (Ok options) status = IsOfOptions options status
+  IsOfArguments (Err error) status = status ≡ status_of_kind (kind_of error)
+
+-- the status after the output failed with an error of this kind: that of the dumps before where it
+-- was closed, and else 1
+abbrev pub status_after : IoKind → ℕ → ℕ
+status_after cause.BrokenPipe before = before
+status_after _ before = 1
+
+-- the status of a run, by what reading its arguments returned, and by why its output failed, if it
+-- did: that of all dumps, or 1, as where memory ran out or names of codes can't be read; after a
+-- failure that of the first dumps, or 1
+abbrev pub IsStatusOf : {E : Type 0} → (Asked → Result (Option (Vec ℕ)) E → Type 0)
+    → Result Options Error → Option IoError → ℕ → Type 0
+IsStatusOf reads read None status = (status ≡ 1) ⊎ IsOfArguments reads (λ dumps. dumps) read status
+IsStatusOf reads read (Some error) status = (count : ℕ) × (before : ℕ)
+    × IsOfArguments reads (take count) read before
+    × (status ≡ status_after (error_kind error) before)
+
+-- the status of a run by its words: that of options that they ask for, or of an error of clap's
+abbrev pub IsRunOf : {E : Type 0} → (Asked → Result (Option (Vec ℕ)) E → Type 0)
+    → List (String Global) → Option IoError → ℕ → Type 0
+IsRunOf reads words failure status = (read : Result Options Error)
+    × IfOk read (λ options. (command : Command) × AreAskedFor command words options)
+    × IsStatusOf reads read failure status

@@ -39,15 +39,21 @@
 //! file that can't be read or is too large, and may be 1 for any where memory ran out: `report`.
 //! Arguments that give no options have status 0 if they ask for the help or the version, 1 if
 //! memory ran out, and else 2: `answer`, `complain_of_arguments`. The status of a run is the
-//! greatest of its dumps', for whatever reads them: `report_each`, `report_dumps`. No status is
-//! above 2: `run`. What is made of a crash is its text, its JSON or its page, by the options and by
-//! symbol files of its modules: `form_of`. The line of JSON of a file that is no dump is its path
-//! and why: `error_line`. That these are what is printed is not proved.
+//! greatest of its dumps', with some names of codes, for whatever reads them: `report_each`,
+//! `report_dumps`, `obey`, `run_by`, `run`. It may be 1 for any, since memory may run out and names
+//! may not be read. Only where a write of the output failed is it that of the first dumps alone, if
+//! the kind of the failure is that of a closed pipe, and else 1: `Output::put`, `end`. What is made
+//! of a crash is its text, its JSON or its page, by the options and by symbol files of its modules:
+//! `form_of`. The line of JSON of a file that is no dump is its path and why: `error_line`.
+//!
+//! What isn't: that these are what is printed, that `main` passes on its arguments and its output,
+//! and what reading a file returns.
 #![tactic(auto)]
 
 mod complain;
 mod form;
 mod names;
+mod output;
 mod program;
 mod report;
 
@@ -55,9 +61,10 @@ use std::process::ExitCode;
 use std::{env, io};
 
 fn main(rt: HostRuntime) -> ExitCode {
+    let mut out = output::Output::new(rt.stdout());
     ExitCode::from(match words_of(&rt) {
         Ok(words) => match words.as_slice() {
-            [_name, words @ ..] => program::run(&rt, words),
+            [_name, words @ ..] => program::run(&rt, words, &mut out),
             [] => 2,
         },
         Err(error) => program::complain_of_arguments(&rt, &error),

@@ -2,13 +2,16 @@ use crate::complain::complain;
 use minidump_names::{NameTable, family_name, listing_in};
 use std::alloc::{AllocError, Global};
 use std::collections::BTreeMap;
-use std::{fs, io};
+use std::fs;
 use whocrashed_inputs::Options;
 
 /// Returns the text of the names that are asked for: those that are compiled in, unless they are
 /// left out, and those of each file. Of two names of a code that of the later file counts. Returns
 /// `None` if a file can't be read, or isn't one of names, which it says on standard error.
-pub(crate) fn names_text(rt: &HostRuntime, options: &Options<'_>) -> io::Result<Option<String>> {
+pub(crate) fn names_text(
+    rt: &HostRuntime,
+    options: &Options<'_>,
+) -> Result<Option<String>, AllocError> {
     let known = if options.only_names {
         String::new(rt.alloc())
     } else {
@@ -24,7 +27,7 @@ pub(crate) fn names_text(rt: &HostRuntime, options: &Options<'_>) -> io::Result<
 }
 
 // Reads files of names. Returns `None` if one can't be read or isn't one of names, which it says.
-fn read_texts(rt: &HostRuntime, paths: &[&str]) -> io::Result<Option<Vec<Vec<u8>>>> {
+fn read_texts(rt: &HostRuntime, paths: &[&str]) -> Result<Option<Vec<Vec<u8>>>, AllocError> {
     let mut texts = Vec::new(rt.alloc());
     for path in paths {
         match fs::read(rt, *path) {

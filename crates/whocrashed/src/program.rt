@@ -1,36 +1,77 @@
-ghost use Rattle.std.specs.Prelude.{◌≡◌, ◌<◌, ◌≤◌, ◌++◌, ℕ, List, IfOk, OnErr, OnOk, map, take};
+ghost use Rattle.std.specs.Prelude.{◌≡◌, ◌⊎◌, ◌<◌, ◌≤◌, ℕ, IfErr, IfNone, IfOk, IsSome, None};
+ghost use Rattle.std.specs.Prelude.{OnErr, OnOk, OnSome, map, take};
 ghost use Rattle.std.specs.IoError.{error_kind};
 ghost use Rattle.clap.specs.Words.{kind_of};
-ghost use Rattle.whocrashed_inputs.specs.Input.{asked_in, asked_of, by_argument};
-ghost use Rattle.whocrashed.specs.Status.{IsGreatest, IsListOf, MayHave, status_of_kind};
+ghost use Rattle.whocrashed_inputs.specs.Input.{asked_of};
+ghost use Rattle.whocrashed_inputs.specs.declared.input.Files.{Files};
+ghost use Rattle.whocrashed.specs.Output.{Lives, failure_of};
+ghost use Rattle.whocrashed.specs.Status.{IsGreatest, IsListOf, IsOfDumps, IsOfOptions, IsRunOf};
+ghost use Rattle.whocrashed.specs.Status.{IsStatusOf, MayHave, status_after, status_of_kind};
 ghost use Rattle.whocrashed.specs.Status.{status_without};
 
 use crate::complain::{complain, complain_in_any_case, say};
 use crate::names::names_text;
+use crate::output::{Output, OutputFailed, Stopped};
 use crate::report::Reporter;
 use clap::Error;
 use clap::error::ErrorKind;
 use crash_text::push_line;
 use minidump::text::Piece;
 use minidump_names::NameTable;
+use std::alloc::AllocError;
 use std::io;
+use std::io::Write;
 use whocrashed_inputs::{Dump, Files, Options, ReadDumps, SymbolCache, dumps_in};
 
 /// Runs the program with its arguments, without its own name, and returns the status: 0; 1 where a
 /// dump, a file or the output failed, where something of a dump is there and can't be read, and
 /// where memory ran out; 2 for arguments that are refused. A pipe that is closed ends it quietly.
-pub(crate) fn run(rt: &HostRuntime, words: &[String]) -> u8
-    ensures { result ≤ 2 }
+pub(crate) fn run<O: Write>(rt: &HostRuntime, words: &[String], out: &mut Output<O>) -> u8
+    requires { failure_of out.old ≡ None }
+    ensures { (files : Files) × IsRunOf (⟦<Files<'static> as ReadDumps>⟧.reads files) words.now
+        (failure_of out.new) result }
 {
-    let status = match Options::read(rt.alloc(), words) {
-        Ok(options) => obey(rt, &options),
-        Err(error) => answer(rt, &error),
+    let read = Options::read(rt.alloc(), words);
+    let limit = match &read {
+        Ok(options) => options.limit,
+        Err(_) => 0,
     };
-    match status {
-        Ok(status) => status,
-        Err(error) if error.kind() == io::ErrorKind::BrokenPipe => 0,
-        Err(error) => {
+    run_by(rt, &read, &Files { rt, limit }, out)
+}
+
+// Runs the program by what reading its arguments returned, where `source` reads dumps.
+fn run_by<S: ReadDumps, O: Write>(
+    rt: &HostRuntime,
+    read: &Result<Options<'_>, Error>,
+    source: &S,
+    out: &mut Output<O>,
+) -> u8
+    requires { failure_of out.old ≡ None }
+    ensures { IsStatusOf (S.reads source.now) read.now (failure_of out.new) result }
+{
+    let status = match read {
+        Ok(options) => obey(rt, options, source, out),
+        Err(error) => answer(rt, error, out),
+    };
+    match (status, out.failure()) {
+        (Ok(status), None) => status,
+        (Ok(status), Some(error)) => end(rt, status, &error),
+        (Err(error), _) => {
             complain_in_any_case(rt, "whocrashed", &error);
+            1
+        }
+    }
+}
+
+// Returns the status of a run whose output failed, if `status` is that of the dumps before. Says
+// why it failed, unless it was closed.
+fn end(rt: &HostRuntime, status: u8, error: &io::Error) -> u8
+    ensures { result ≡ status_after (error_kind error.now) status }
+{
+    match error.kind() {
+        io::ErrorKind::BrokenPipe => status,
+        _ => {
+            complain_in_any_case(rt, "whocrashed", error);
             1
         }
     }
@@ -53,10 +94,10 @@ pub(crate) fn complain_of_arguments(rt: &HostRuntime, error: &io::Error) -> u8
 }
 
 // Prints the help or the version that was asked for, or why the arguments are malformed or refused.
-// Returns the status.
-fn answer(rt: &HostRuntime, error: &Error) -> io::Result<u8>
+// Returns the status. Running out of memory is an error.
+fn answer<O: Write>(rt: &HostRuntime, error: &Error, out: &mut Output<O>) -> io::Result<u8>
     ensures status { IfOk result (λ status. status ≡ status_of_kind (kind_of error.now)) }
-    ensures bound { IfOk result (λ status. status ≤ 2) }
+    ensures alive { OnErr result (failure_of out.new ≡ failure_of out.old) }
 {
     let mut text = String::new(rt.alloc());
     for line in format!(in rt.alloc(); "{error}")?.lines() {
@@ -65,7 +106,7 @@ fn answer(rt: &HostRuntime, error: &Error) -> io::Result<u8>
     if error.use_stderr() {
         say(rt, text.as_str());
     } else {
-        print!(rt; "{text}")?;
+        let _ = out.put(text.as_bytes());
     }
     match error.kind() {
         ErrorKind::DisplayHelp | ErrorKind::DisplayVersion => Ok(0),
@@ -74,10 +115,20 @@ fn answer(rt: &HostRuntime, error: &Error) -> io::Result<u8>
     }
 }
 
-// Reports on the dumps, with the names that the options ask for. Returns the status: after a closed
-// pipe that of the dumps before.
-fn obey<'o>(rt: &'o HostRuntime, options: &'o Options<'_>) -> io::Result<u8>
-    ensures { IfOk result (λ status. status < 2) }
+// Reports on the dumps, with the names that the options ask for. Returns the status: after a
+// failure of the output that of the dumps before. Running out of memory is an error.
+fn obey<'o, S: ReadDumps, O: Write>(
+    rt: &'o HostRuntime,
+    options: &'o Options<'_>,
+    source: &S,
+    out: &mut Output<O>,
+) -> io::Result<u8>
+    requires { failure_of out.old ≡ None }
+    ensures whole { IfOk result (λ status. IfNone (failure_of out.new) ((status ≡ 1)
+        ⊎ IsOfOptions (S.reads source.now) (λ dumps. dumps) options.now status)) }
+    ensures failed { IfOk result (λ status. OnSome (failure_of out.new) ((count : ℕ)
+        × IsOfOptions (S.reads source.now) (take count) options.now status)) }
+    ensures alive { OnErr result (failure_of out.new ≡ None) }
 {
     let Some(text) = names_text(rt, options)? else {
         return Ok(1);
@@ -91,14 +142,11 @@ fn obey<'o>(rt: &'o HostRuntime, options: &'o Options<'_>) -> io::Result<u8>
                 names: &names,
                 options,
             };
-            let files = Files {
-                rt,
-                limit: options.limit,
-            };
             let mut worst = 0;
-            match report_dumps(&reporter, &files, &mut worst) {
-                Err(error) if error.kind() != io::ErrorKind::BrokenPipe => Err(error),
-                _ => Ok(worst),
+            match report_dumps(&reporter, source, out, &mut worst) {
+                Ok(()) => Ok(worst),
+                Err(Stopped::NoMemory(error)) => Err(error),
+                Err(Stopped::NoOutput) => Ok(worst),
             }
         }
         Err(error) => {
@@ -110,20 +158,21 @@ fn obey<'o>(rt: &'o HostRuntime, options: &'o Options<'_>) -> io::Result<u8>
 
 // Reports on the dumps of the arguments, and on those of the list on standard input if one is asked
 // for. Makes `worst` the greatest of their statuses and of what it was, or of 1 if the list can't
-// be read or is too large. After an error only the dumps before it count.
-fn report_dumps<S: ReadDumps>(
+// be read or is too large. After a failure of the output only the dumps before it count.
+fn report_dumps<S: ReadDumps, O: Write>(
     reporter: &Reporter<'_, '_, '_>,
     source: &S,
+    out: &mut Output<O>,
     worst: &mut u8,
-) -> io::Result<()>
+) -> Result<(), Stopped>
     requires { worst.old < 2 }
     ensures bound { worst.new < 2 }
-    ensures all { OnOk result ((list : List ℕ) × (first : ℕ)
-        × IsListOf (S.reads source.now) reporter.now.options.now.are_listed worst.old list first
-        × IsGreatest (MayHave (S.reads source.now) reporter.now.names.now
-        reporter.now.options.now.scan) first
-        (map (λ a. by_argument a.now) reporter.now.options.now.dumps.items ++ asked_in list)
-        worst.new) }
+    ensures all { OnOk result (IsOfDumps (S.reads source.now) (λ dumps. dumps)
+        reporter.now.names.now reporter.now.options.now worst.old worst.new) }
+    ensures before { IfErr result (λ why. why ≡ Stopped.NoOutput → (count : ℕ)
+        × IsOfDumps (S.reads source.now) (take count) reporter.now.names.now
+        reporter.now.options.now worst.old worst.new) }
+    ensures alive { Lives out.old out.new result }
 {
     let list = list_of(reporter, source, worst)?;
     let dumps = dumps_in(
@@ -131,7 +180,10 @@ fn report_dumps<S: ReadDumps>(
         reporter.options.dumps.as_slice(),
         &list,
     )?;
-    report_each(reporter, source, dumps.as_slice(), worst)
+    match report_each(reporter, source, dumps.as_slice(), out, worst) {
+        Ok(()) => Ok(()),
+        Err(OutputFailed) => Err(Stopped::NoOutput),
+    }
 }
 
 // Reads the list of paths on standard input. Returns an empty one if the options ask for none. If
@@ -140,7 +192,7 @@ fn list_of<S: ReadDumps>(
     reporter: &Reporter<'_, '_, '_>,
     source: &S,
     worst: &mut u8,
-) -> io::Result<Vec<u8>>
+) -> Result<Vec<u8>, AllocError>
     requires { worst.old < 2 }
     ensures bound { worst.new < 2 }
     ensures list { IfOk result (λ list. IsListOf (S.reads source.now)
@@ -160,13 +212,14 @@ fn list_of<S: ReadDumps>(
 }
 
 // Reports on each of the dumps, which `source` reads. Makes `worst` the greatest of their statuses
-// and of what it was. After an error only the dumps before it count.
-fn report_each<S: ReadDumps>(
+// and of what it was. After a failure of the output only the dumps before it count.
+fn report_each<S: ReadDumps, O: Write>(
     reporter: &Reporter<'_, '_, '_>,
     source: &S,
     dumps: &[Dump<'_>],
+    out: &mut Output<O>,
     worst: &mut u8,
-) -> io::Result<()>
+) -> Result<(), OutputFailed>
     requires { worst.old < 2 }
     ensures bound { worst.new < 2 }
     ensures all { OnOk result (IsGreatest (MayHave (S.reads source.now) reporter.now.names.now
@@ -174,10 +227,12 @@ fn report_each<S: ReadDumps>(
     ensures before { OnErr result ((count : ℕ) × IsGreatest (MayHave (S.reads source.now)
         reporter.now.names.now reporter.now.options.now.scan) worst.old
         (map asked_of (take count dumps.now)) worst.new) }
+    ensures alive { OnOk result (failure_of out.new ≡ failure_of out.old) }
+    ensures failed { OnErr result (IsSome (failure_of out.new)) }
 {
     let mut cache = SymbolCache::new(reporter.rt, reporter.options);
     for (i, dump) in dumps.iter().enumerate() {
-        let status = reporter.report(source, *dump, &mut cache)?;
+        let status = reporter.report(source, *dump, &mut cache, out)?;
         *worst = (*worst).max(status);
         if reporter.options.shows_progress {
             show_progress(reporter.rt, i, dumps.len());

@@ -1,16 +1,20 @@
-ghost use Rattle.std.specs.Prelude.{◌≡◌, ◌≢◌, ◌<◌, ◌++◌, [], ◌∷◌, IfOk, IsOk};
+ghost use Rattle.std.specs.Prelude.{◌≡◌, ◌≢◌, ◌<◌, ◌++◌, [], ◌∷◌, IfOk, IsOk, IsSome, OnErr, OnOk};
 ghost use Rattle.crash.specs.Crash.{crash_in, status_of};
 ghost use Rattle.crash_json.specs.Report.{error_text};
 ghost use Rattle.whocrashed_inputs.specs.Input.{asked_of};
+ghost use Rattle.whocrashed.specs.Output.{Lives, failure_of};
 ghost use Rattle.whocrashed.specs.Status.{HasStatus, MayHave, status_read};
 
 use crate::complain::{complain, complain_in_any_case, say};
 use crate::form::end_line;
+use crate::output::{Output, OutputFailed, Stopped};
 use crash::{Crash, status_of};
 use crash_json::error_json;
 use crash_text::push_line;
 use minidump::text::Piece;
 use minidump::{CodeNames, Error};
+use std::alloc::AllocError;
+use std::io::Write;
 use std::{fmt, io};
 use whocrashed_inputs::{Dump, Form, Options, ReadDumps, SymbolCache};
 
@@ -27,141 +31,177 @@ pub(crate) struct Reporter<'l, 'n, 'w> {
 impl Reporter<'_, '_, '_> {
     /// Reports on a dump, which `source` reads, and returns the status: that of the crash of its
     /// bytes, or 1 if it can't be read or is too large, if its path isn't UTF-8, or if memory runs
-    /// out for it. A failure of the output is an error.
-    pub(crate) fn report<S: ReadDumps>(
+    /// out for it.
+    pub(crate) fn report<S: ReadDumps, O: Write>(
         &self,
         source: &S,
         dump: Dump<'_>,
         cache: &mut SymbolCache<'_>,
-    ) -> io::Result<u8>
+        out: &mut Output<O>,
+    ) -> Result<u8, OutputFailed>
         ensures status { IfOk result (MayHave (S.reads source.now) self.now.names.now
             self.now.options.now.scan (asked_of dump.entry)) }
         ensures bound { IfOk result (λ status. status < 2) }
+        ensures alive { OnOk result (failure_of out.new ≡ failure_of out.old) }
+        ensures failed { OnErr result (IsSome (failure_of out.new)) }
     {
-        match self.try_report(source, dump, cache) {
+        match self.try_report(source, dump, cache, out) {
             Ok(status) => Ok(status),
-            Err(error) if error.kind() == io::ErrorKind::OutOfMemory => {
-                self.complain_of_memory(dump, &error)?;
+            Err(Stopped::NoMemory(error)) => {
+                self.complain_of_memory(dump, &error, out)?;
                 Ok(1)
             }
-            Err(error) => Err(error),
+            Err(Stopped::NoOutput) => Err(OutputFailed),
         }
     }
 
     // Does so, but running out of memory is an error, too.
-    fn try_report<S: ReadDumps>(
+    fn try_report<S: ReadDumps, O: Write>(
         &self,
         source: &S,
         dump: Dump<'_>,
         cache: &mut SymbolCache<'_>,
-    ) -> io::Result<u8>
+        out: &mut Output<O>,
+    ) -> Result<u8, Stopped>
         ensures status { IfOk result (HasStatus (S.reads source.now) self.now.names.now
             self.now.options.now.scan (asked_of dump.entry)) }
         ensures bound { IfOk result (λ status. status < 2) }
+        ensures alive { Lives out.old out.new result }
     {
         match dump {
-            Dump::Input => self.report_file("-", source.read_input(), cache),
-            Dump::File(path) => self.report_file(path, source.read_file(path), cache),
+            Dump::Input => self.report_file("-", source.read_input(), cache, out),
+            Dump::File(path) => self.report_file(path, source.read_file(path), cache, out),
             Dump::Malformed(path) => {
                 // it is printed with U+FFFD for what isn't UTF-8
                 let path = String::from_utf8_lossy(self.rt.alloc(), path)?;
-                self.report_failure(path.as_str(), &"the path isn't UTF-8")
+                self.report_failure(path.as_str(), &"the path isn't UTF-8", out)
             }
         }
     }
 
     // Prints that memory ran out at a dump, or that alone if there is none for its path.
-    fn complain_of_memory(&self, dump: Dump<'_>, error: &io::Error) -> io::Result<()> {
+    fn complain_of_memory<O: Write>(
+        &self,
+        dump: Dump<'_>,
+        error: &io::Error,
+        out: &mut Output<O>,
+    ) -> Result<(), OutputFailed>
+        ensures alive { OnOk result (failure_of out.new ≡ failure_of out.old) }
+        ensures failed { OnErr result (IsSome (failure_of out.new)) }
+    {
         let path = match dump {
             Dump::Input => Some("-"),
             Dump::File(path) => Some(path),
             Dump::Malformed(_) => None,
         };
         match (self.options.form, path) {
-            (Form::Json, Some(path)) => self.print_error(path, Error::OutOfMemory.name())?,
-            (Form::Json, None) => self.rt.write_all(NO_MEMORY.as_bytes())?,
+            (Form::Json, Some(path)) => self.print_error(path, Error::OutOfMemory.name(), out)?,
+            (Form::Json, None) => out.put(NO_MEMORY.as_bytes())?,
             (Form::Lines | Form::Html, Some(path)) => complain_in_any_case(self.rt, path, error),
             (Form::Lines | Form::Html, None) => say(self.rt, "whocrashed: Out of memory\n"),
         }
         Ok(())
     }
 
-    // Reports on what was read at a path, and returns its status. Running out of memory is an
-    // error.
+    // Reports on what was read at a path, and returns its status.
     #[tactic(auto, unfolding(crate::specs::Status::status_read))]
-    fn report_file(
+    fn report_file<O: Write>(
         &self,
         path: &str,
         read: io::Result<Option<Vec<u8>>>,
         cache: &mut SymbolCache<'_>,
-    ) -> io::Result<u8>
+        out: &mut Output<O>,
+    ) -> Result<u8, Stopped>
         ensures status { IfOk result (λ status. status
             ≡ status_read self.now.names.now self.now.options.now.scan read) }
         ensures bound { IfOk result (λ status. status < 2) }
+        ensures alive { Lives out.old out.new result }
     {
         match read {
-            Ok(Some(bytes)) => self.report_bytes(path, &bytes, cache),
+            Ok(Some(bytes)) => self.report_bytes(path, &bytes, cache, out),
             Ok(None) => {
                 let limit = self.options.limit;
                 let words = format!(in self.rt.alloc(); "larger than {limit} bytes")?;
-                self.report_failure(path, &words)
+                self.report_failure(path, &words, out)
             }
-            Err(error) if error.kind() == io::ErrorKind::OutOfMemory => Err(error),
-            Err(error) => self.report_failure(path, &error),
+            Err(error) if error.kind() == io::ErrorKind::OutOfMemory => Err(Stopped::NoMemory(
+                error,
+            )),
+            Err(error) => self.report_failure(path, &error, out),
         }
     }
 
-    // Reports on a dump, whose bytes are `bytes`, and returns its status. Running out of memory is
-    // an error.
-    fn report_bytes(&self, path: &str, bytes: &[u8], cache: &mut SymbolCache<'_>) -> io::Result<u8>
-        ensures { IfOk result (λ status. status
+    // Reports on a dump, whose bytes are `bytes`, and returns its status.
+    fn report_bytes<O: Write>(
+        &self,
+        path: &str,
+        bytes: &[u8],
+        cache: &mut SymbolCache<'_>,
+        out: &mut Output<O>,
+    ) -> Result<u8, Stopped>
+        ensures status { IfOk result (λ status. status
             ≡ status_of (crash_in bytes.now self.now.names.now self.now.options.now.scan)) }
+        ensures alive { Lives out.old out.new result }
     {
-        self.print_heading(path)?;
+        self.print_heading(path, out)?;
         let crash = Crash::read(self.rt.alloc(), bytes, self.names, self.options.scan);
         let status = status_of(&crash);
         match crash {
             Ok(crash) => {
                 let form = self.form_of(path, &crash, cache);
                 crash.close();
-                self.rt.write_all(&form?)?;
+                out.put(&form?)?;
             }
-            Err(error) => self.report_error(path, error)?,
+            Err(error) => self.report_error(path, error, out)?,
         }
         Ok(status)
     }
 
     // Prints the path of a dump before its lines, unless it is the only argument and no list of
     // paths is asked for.
-    fn print_heading(&self, path: &str) -> io::Result<()> {
+    fn print_heading<O: Write>(&self, path: &str, out: &mut Output<O>) -> Result<(), Stopped>
+        ensures { Lives out.old out.new result }
+    {
         let is_one = self.options.dumps.len() == 1 && !self.options.are_listed;
         if matches!(self.options.form, Form::Lines) && !is_one {
             let mut text = String::new(self.rt.alloc());
             push_line(&mut text, &[Piece::Words("dump    "), Piece::Words(path)])?;
-            print!(self.rt; "{text}")?;
+            out.put(text.as_bytes())?;
         }
         Ok(())
     }
 
-    // Reports why bytes are no dump. Running out of memory is an error.
-    fn report_error(&self, path: &str, error: Error) -> io::Result<()>
-        ensures { IsOk result → error ≢ Error.OutOfMemory }
+    // Reports why bytes are no dump. That memory ran out is returned.
+    fn report_error<O: Write>(
+        &self,
+        path: &str,
+        error: Error,
+        out: &mut Output<O>,
+    ) -> Result<(), Stopped>
+        ensures memory { IsOk result → error ≢ Error.OutOfMemory }
+        ensures alive { Lives out.old out.new result }
     {
         match (error, self.options.form) {
-            (Error::OutOfMemory, _) => Err(io::Error::from(io::ErrorKind::OutOfMemory)),
-            (error, Form::Json) => self.print_error(path, error.name()),
+            (Error::OutOfMemory, _) => Err(Stopped::from(AllocError)),
+            (error, Form::Json) => Ok(self.print_error(path, error.name(), out)?),
             (error, Form::Lines | Form::Html) => Ok(complain(self.rt, path, &error)?),
         }
     }
 
     // Prints why there is no report on a file, on standard error or as its line of JSON, and
     // returns its status, 1.
-    fn report_failure<E: fmt::Display>(&self, path: &str, why: &E) -> io::Result<u8>
-        ensures { IfOk result (λ status. status ≡ 1) }
+    fn report_failure<E: fmt::Display, O: Write>(
+        &self,
+        path: &str,
+        why: &E,
+        out: &mut Output<O>,
+    ) -> Result<u8, Stopped>
+        ensures status { IfOk result (λ status. status ≡ 1) }
+        ensures alive { Lives out.old out.new result }
     {
         if matches!(self.options.form, Form::Json) {
             let words = format!(in self.rt.alloc(); "{why}")?;
-            self.print_error(path, words.as_str())?;
+            self.print_error(path, words.as_str(), out)?;
         } else {
             complain(self.rt, path, why)?;
         }
@@ -170,10 +210,18 @@ impl Reporter<'_, '_, '_> {
 
     // Prints the line of JSON of a file without a report in one write, or a line that takes no
     // memory where there was none for that.
-    fn print_error(&self, path: &str, status: &str) -> io::Result<()> {
+    fn print_error<O: Write>(
+        &self,
+        path: &str,
+        status: &str,
+        out: &mut Output<O>,
+    ) -> Result<(), OutputFailed>
+        ensures alive { OnOk result (failure_of out.new ≡ failure_of out.old) }
+        ensures failed { OnErr result (IsSome (failure_of out.new)) }
+    {
         match self.error_line(path, status) {
-            Ok(line) => self.rt.write_all(&line),
-            Err(_) => self.rt.write_all(NO_MEMORY.as_bytes()),
+            Ok(line) => out.put(&line),
+            Err(_) => out.put(NO_MEMORY.as_bytes()),
         }
     }
 
