@@ -3,7 +3,6 @@ use Rattle.std.specs.Prelude.{◌≡◌, ℕ, List, IsSome, Option, Result, Ok, 
 use Rattle.std.specs.Io.KnownBytes.{Appends}
 use Rattle.std.specs.declared.io.Error.{Error}
 use Rattle.whocrashed.specs.declared.output.Output.{Output}
-use Rattle.whocrashed.specs.declared.output.OutputFailed.{OutputFailed}
 use Rattle.whocrashed.specs.declared.output.Stopped.{Stopped}
 use Rattle.whocrashed.specs.declared.output.Stopped.TheVariants.{NoMemory, NoOutput}
 
