@@ -8,9 +8,9 @@ ghost use Rattle.crash_symbols.specs.NameParts.{named_of};
 ghost use Rattle.crash_symbols.specs.Shown.{symbolized_of};
 ghost use Rattle.crash_json.specs.Tree.{Adds, Puts};
 ghost use Rattle.crash_json.specs.ReportValue.{report_of};
-ghost use Rattle.crash_json.specs.Threads.{candidates_in, crashing_json, end_name, frames_in, named_frames};
-ghost use Rattle.crash_json.specs.Threads.{index_members, range_json, registers_of, short_json, thread_members};
-ghost use Rattle.crash_json.specs.Threads.{threads_json};
+ghost use Rattle.crash_json.specs.Threads.{candidates_in, crashing_json, end_name, frames_in};
+ghost use Rattle.crash_json.specs.Threads.{index_members, named_frames, range_json, registers_of};
+ghost use Rattle.crash_json.specs.Threads.{short_json, thread_members, threads_json};
 
 use crate::frames::EachFrame;
 use crate::report::Report;
@@ -120,14 +120,16 @@ fn frame_count(walk: Option<&CrashWalk>) -> usize
 
 // Returns how many candidates there are.
 fn candidate_count(walk: Option<&CrashWalk>) -> usize
-    ensures { result ≡ length (candidates_in (option_map crash_walk_of (option_copied walk.entry))) }
+    ensures { result
+        ≡ length (candidates_in (option_map crash_walk_of (option_copied walk.entry))) }
 {
     walk.map_or(0, |walk| walk.candidates.len())
 }
 
 // Returns why the last frame has no caller.
 fn end_of(walk: Option<&CrashWalk>) -> Option<WalkEnd>
-    ensures { result ≡ option_map (λ w. w.end) (option_map crash_walk_of (option_copied walk.entry)) }
+    ensures { result
+        ≡ option_map (λ w. w.end) (option_map crash_walk_of (option_copied walk.entry)) }
 {
     Some(walk?.end)
 }

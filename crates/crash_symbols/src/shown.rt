@@ -57,7 +57,8 @@ fn push_named<'l>(
     frames: &[CrashFrame],
 ) -> Result<(), AllocError>
     ensures { OnOk result (map named_of named.new.items ≡ map named_of named.old.items
-        ++ map (named_in (files_of (option_map known_of (option_copied symbols.entry)))) frames.now) }
+        ++ map (named_in (files_of (option_map known_of (option_copied symbols.entry))))
+        frames.now) }
 {
     let alloc = *named.allocator();
     for frame in frames {

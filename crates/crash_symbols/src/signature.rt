@@ -47,7 +47,8 @@ fn crashed_marks(
     symbols: Option<&Symbolized<'_, '_>>,
 ) -> Result<Vec<String>, AllocError>
     ensures { IfOk result (λ marks. map string_bytes marks.items
-        ≡ crashed_marks (option_map symbolized_of (option_copied symbols.entry)) (crash_of crash.now)) }
+        ≡ crashed_marks (option_map symbolized_of (option_copied symbols.entry))
+        (crash_of crash.now)) }
 {
     let Some((index, thread)) = crash.threads.crashed() else {
         return Ok(Vec::new(alloc));

@@ -40,8 +40,7 @@ walk_end s f = if is_none s.region then NoMemory
 
 -- ---- the walk
 
--- a walk: the frames by frame pointers, the candidates, and why the last of the frames has no
--- caller
+-- a walk: the frames, the candidates, and why the last of the frames has no caller
 pub record WalkValue : Type 0 where
   pub frames : List StackFrame
   pub candidates : List StackFrame

@@ -9,7 +9,7 @@ use std::alloc::{AllocError, Global};
 /// The frames of a context, the candidates, and why there are no more callers.
 #[derive(Drop)]
 pub struct Walk {
-    /// The frame of the context and its callers by frame pointers, the innermost first.
+    /// The frame of the context and its callers, the innermost first.
     pub frames: Vec<StackFrame>,
     /// The candidates: the link register of the context and words of the stack that may be return
     /// addresses, as [`frames`](crate::frames) says.
