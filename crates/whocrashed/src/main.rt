@@ -42,14 +42,14 @@
 //! greatest of its dumps', with some names of codes, for whatever reads them: `report_each`,
 //! `report_dumps`, `obey`, `run_by`. It may be 1 for any, since memory may run out and names may
 //! not be read. Only where a write of the output failed is it that of the first dumps alone, if the
-//! kind of the failure is that of a closed pipe, and else 1: `Output::put`, `end`. Options are
-//! those that the words ask for: `run`. What is made of a crash is its text, its JSON or its page,
-//! by the options and by symbol files of its modules: `form_of`. The line of JSON of a file that is
-//! no dump is its path and why: `error_line`.
+//! kind of the failure is that of a closed pipe, and else 1: `Output::put`, `end`. The options are
+//! those that the words ask for, and an error has a kind that they may have: `run`. What is made of
+//! a crash is its text, its JSON or its page, by the options and by symbol files of its modules:
+//! `form_of`. The line of JSON of a file that is no dump is its path and why: `error_line`.
 //!
 //! What isn't: that these are what is printed, that `main` passes on its arguments and its output,
-//! which words have an error of clap's, and what reading a file returns, so that `run` alone, which
-//! reads files, doesn't say that a status is that of their bytes.
+//! and what reading a file returns, so that `run` alone, which reads files, doesn't say that a
+//! status is that of their bytes.
 #![tactic(auto)]
 
 mod complain;
