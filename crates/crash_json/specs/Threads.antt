@@ -48,7 +48,7 @@ frames_in walk = option_map_or all_frames walk []
 abbrev pub candidates_in : Option CrashWalkValue → List CrashFrame
 candidates_in walk = option_map_or (λ w. w.candidates) walk []
 
--- the first of these, each with its names
+-- the first of the frames and candidates, each with its names
 abbrev pub named_frames : ℕ → Option SymbolizedValue → Option CrashWalkValue → List NamedFrameValue
 named_frames limit symbols walk = option_map_or (first_frames limit (known_in symbols)) walk []
 

@@ -37,8 +37,8 @@ abbrev pub tally : List Handle → List KindValue
 tally handles = map (λ name. kind_by name (count_by (has_type name) handles))
     (ascending (slice_cmp nat_cmp) (type_names handles))
 
--- kinds are those of handles: they have exactly these names, each once, ascending, with the number of
--- handles that have it
+-- kinds are those of handles: they have the names of the handles' types and no others, each once,
+-- ascending, with the number of handles that have it
 pub record IsTally (handles : List Handle) (kinds : List KindValue) : Type 0 where
   pub names : IsAscending (slice_cmp nat_cmp) (type_names handles) (map (λ k. k.type_name) kinds)
   pub numbers : All (λ k. k.count ≡ count_by (has_type k.type_name) handles) kinds

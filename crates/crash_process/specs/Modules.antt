@@ -135,7 +135,7 @@ bases_of modules = map (λ p. (p.1.base, p.0)) (enumerate_from 0 modules)
 abbrev pub by_address : List LoadedValue → List ℕ
 by_address modules = map (λ p. p.1) (ascending pair_cmp (bases_of modules))
 
--- indices are those of the modules by address: of the pairs of their bases, ascending
+-- indices are by address: those in the pairs of a base and an index, one pair of each module, ascending
 abbrev pub IsByAddress : List LoadedValue → List ℕ → Type 0
 IsByAddress modules indices = (pairs : List (ℕ × ℕ)) × IsAscending pair_cmp (bases_of modules) pairs
     × (indices ≡ map (λ p. p.1) pairs)

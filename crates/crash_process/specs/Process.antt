@@ -73,7 +73,7 @@ process_of p = record {
 
 -- ---- the value of the streams
 
--- the platform as which a version is written: that of Android is written as that of Linux, MD_OS_LINUX
+-- the platform by whose rules the version is written: for Android that of Linux, MD_OS_LINUX
 abbrev version_platform : Os → ℕ → ℕ
 version_platform Android platform = 0x8201
 version_platform _ platform = platform
@@ -99,8 +99,8 @@ system_in system cpu = option_map (λ s. record {
   microcode = cpu_text (codes "microcode") cpu;
 }) (result_ok system)
 
--- the id of a process by Linux's status, which is that of one of its threads, as of the one that crashed: `Tgid`, since
--- `Pid` is the id of the thread (proc_pid_status(5)); else `Pid`
+-- the id of a process by Linux's status, a copy of that of one of its threads, as of the one that crashed: `Tgid`, since
+-- `Pid` is the id of that thread (proc_pid_status(5)); else `Pid`
 abbrev pub status_id : Result (List ℕ) Error → Option ℕ
 status_id status =
     option_or (status_number (codes "Tgid") status) (status_number (codes "Pid") status)

@@ -49,7 +49,7 @@ abbrev pub is_guard_access : ℕ → Bool
 is_guard_access code = code == 0x80000001 || code == 0xc00000fd
 
 -- an exception is an access to memory, by its code on an operating system: Linux's SIGBUS and SIGSEGV,
--- macOS's EXC_BAD_ACCESS, and winnt.h's EXCEPTION_ACCESS_VIOLATION and EXCEPTION_IN_PAGE_ERROR, and those to guard pages
+-- macOS's EXC_BAD_ACCESS, winnt.h's EXCEPTION_ACCESS_VIOLATION and EXCEPTION_IN_PAGE_ERROR, and accesses to guard pages
 abbrev pub is_access : Os → ℕ → Bool
 is_access Linux code = code == 7 || code == 11
 is_access Android code = code == 7 || code == 11
@@ -182,8 +182,8 @@ sender_in has_codes system r = option_and_then (λ s. sender_on has_codes s.os s
 
 -- ---- a process of macOS that no exception of the processor ended
 
--- the signal that ended it, as SIGABRT by abort(): Crashpad then has the code 0, and as parameters those of EXC_CRASH, 10,
--- whose first code has the signal in bits 24 to 31 (xnu's proc_prepareexit)
+-- the signal that ended it, as SIGABRT by abort(): Crashpad then has the code 0, and as parameters EXC_CRASH, 10, and its
+-- codes, the first of which has the signal in bits 24 to 31 (xnu's proc_prepareexit)
 abbrev pub ending_signal : Os → MINIDUMP_EXCEPTION → Option ℕ
 ending_signal MacOs r = if (r.exception_code == 0 && nat_le 2 r.number_parameters)
     && slice_index r.exception_information 0 == 10
@@ -194,9 +194,10 @@ ending_signal _ r = None
 abbrev pub mac_signal_name : ℕ → Option (List ℕ)
 mac_signal_name n = if n == 3 then Some (codes "SIGQUIT") else (if n == 4 then Some (codes "SIGILL")
     else (if n == 5 then Some (codes "SIGTRAP") else (if n == 6 then Some (codes "SIGABRT")
-    else (if n == 8 then Some (codes "SIGFPE") else (if n == 9 then Some (codes "SIGKILL")
-    else (if n == 10 then Some (codes "SIGBUS") else (if n == 11 then Some (codes "SIGSEGV")
-    else (if n == 12 then Some (codes "SIGSYS") else None))))))))
+    else (if n == 7 then Some (codes "SIGEMT") else (if n == 8 then Some (codes "SIGFPE")
+    else (if n == 9 then Some (codes "SIGKILL") else (if n == 10 then Some (codes "SIGBUS")
+    else (if n == 11 then Some (codes "SIGSEGV")
+    else (if n == 12 then Some (codes "SIGSYS") else None)))))))))
 
 -- ---- the address
 

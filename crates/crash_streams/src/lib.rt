@@ -5,8 +5,10 @@
 //!   directory. [`SpaceStreams`] chooses between the lists of memory, and between the lists of what is
 //!   known of its regions.
 //! - [`description_of`], [`access_of`] and [`sender_of`] say what the record of an exception holds
-//!   beside its code, [`lacks_address`] and [`may_be_instruction`] what its address is.
-//!   [`has_signal_codes`] says whether the flags of such a record are known to be a signal's code.
+//!   beside its code, [`lacks_address`] and [`may_be_instruction`] what its address is,
+//!   [`crash_address`] that address. [`ending_signal`] and [`mac_signal_name`] say by which signal a
+//!   process of macOS ended, [`has_signal_codes`] whether the flags of such a record are known to be
+//!   a signal's code.
 //!
 //! `crash_process` says what the streams tell of the process and its modules, `crash_threads` of its
 //! threads and the crash.

@@ -217,6 +217,7 @@ pub fn mac_signal_name(signal: u8) -> Option<&'static str>
         4 => Some("SIGILL"),
         5 => Some("SIGTRAP"),
         6 => Some("SIGABRT"),
+        7 => Some("SIGEMT"),
         8 => Some("SIGFPE"),
         9 => Some("SIGKILL"),
         10 => Some("SIGBUS"),

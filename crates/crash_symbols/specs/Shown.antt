@@ -26,6 +26,6 @@ abbrev pub shown_in : Option SymbolizedValue → ℕ → ThreadValue → Option 
 shown_in (Some s) number t = option_and_then (λ w. w) (slice_get s.threads number)
 shown_in None number t = t.walk
 
--- the first of its frames, with the candidates after them, each with its names
+-- the first frames of a walk, with the candidates after them, each with its names
 abbrev pub first_frames : ℕ → Option KnownSymbols → CrashWalkValue → List NamedFrameValue
 first_frames limit symbols w = map (named_in (files_of symbols)) (take limit (all_frames w))

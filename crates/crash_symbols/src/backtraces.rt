@@ -17,7 +17,8 @@ pub struct Backtraces {
     pub threads: Vec<Option<CrashWalk>>,
 }
 
-/// Symbols and the backtraces that they give, for what prints them.
+/// Symbols and the backtraces that they give, for what prints them: the names of frames are made by
+/// the symbols when they are shown, so both have to belong together.
 #[derive(Clone, Copy)]
 pub struct Symbolized<'s, 'l> {
     /// The symbols.

@@ -7,7 +7,8 @@
 //! - [`Backtraces::wanted`] returns the modules whose files are still to be read. Their rules may
 //!   lead to further frames, and so to further modules.
 //! - [`shown_walk`] is what a form shows of a thread: its backtrace, or without symbols its walk.
-//!   [`first_frames`] returns the first frames of it, each with its names.
+//!   [`first_frames`] returns the first frames of it, each with its names. [`mark_frames`] marks the
+//!   modules that frames lie in, for a form that lists these.
 //! - [`signature_of`] makes the signature of a crash, which crashes of one kind share.
 //! - [`symbol_path`] is where the file of a module lies below a directory of symbol files, and
 //!   [`is_of_module`] tells whether a file is the module's.

@@ -63,7 +63,8 @@ fn visited(
     Ok(marks)
 }
 
-/// Marks the modules in which frames lie, by their indices.
+/// Marks the modules in which frames lie, by their indices. A mark that is set stays, and a module
+/// beyond the marks has none.
 pub fn mark_frames(marks: &mut [bool], frames: &[CrashFrame])
     ensures { (k : ℕ) → k < length marks.old → slice_index_or marks.new k false
         ≡ (slice_index_or marks.old k false || list_any (lies_in k) frames.now) }

@@ -209,7 +209,7 @@ fn push_context(out: &mut String, words: &str, problem: Option<ContextProblem>) 
     push_table(out, &[&[Words(words), DecimalIf(", ", size, " bytes")]])
 }
 
-// Returns the frames of a thread with its index that are printed, the candidates apart.
+// Returns the frames and candidates of a thread with its index that are printed, in two parts.
 pub(crate) fn frames_at<'x>(
     page: Page<'x, '_, '_, '_>,
     number: usize,

@@ -104,11 +104,12 @@ pub struct CrashException {
     /// and code is known to be there, in a module or in memory that may be run: LLDB writes that
     /// address, whatever was accessed. Such flags are LLDB's and, but on Windows, 0; the accesses are
     /// SIGSEGV and SIGBUS, EXC_BAD_ACCESS of macOS and iOS, and the access violations, in-page errors and
-    /// accesses to guard pages of Windows. On Windows LLDB's flags also say that a text stands in the place of an address in the
-    /// parameters.
+    /// accesses to guard pages of Windows. On Windows LLDB's flags also say that a text stands in the
+    /// place of an address in the parameters.
     pub address: Option<u64>,
     /// The reason of the crash in words, or `None` without system information. Of a process of macOS that
-    /// a signal ended it is `EXC_CRASH` and the signal.
+    /// a signal ended it is as `EXC_CRASH / SIGABRT`, or `EXC_CRASH / signal 2` for a signal without a
+    /// name here.
     pub reason: Option<String>,
     /// Why its context can't give registers, or `None` if it can, whole or cut short: also where
     /// those of the thread's own are used, as beside one that is cut short.

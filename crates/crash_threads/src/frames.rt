@@ -1,4 +1,4 @@
-ghost use Rattle.std.specs.Prelude.{◌≡◌, ◌++◌, IfOk, IsOkUnless, map, take};
+ghost use Rattle.std.specs.Prelude.{◌≡◌, ◌-◌, ◌++◌, IfOk, IsOkUnless, length, map, take};
 ghost use Rattle.std.specs.Option.{option_copied, option_map};
 ghost use Rattle.minidump.specs.Promise.{exception_stream};
 ghost use Rattle.minidump.specs.Thread.{thread_of};
@@ -47,7 +47,11 @@ impl CrashWalk {
     /// Returns the first frames, and then the first candidates, at most `limit` in all.
     #[tactic(auto, using(crate::proofs::FirstLemmas::first_of_both, std::proofs::lemmas::List::take_min))]
     pub fn first(&self, limit: usize) -> (&[CrashFrame], &[CrashFrame])
-        ensures { result.0.now ++ result.1.now ≡ take limit (all_frames (crash_walk_of self.now)) }
+        ensures all { result.0.now ++ result.1.now
+            ≡ take limit (all_frames (crash_walk_of self.now)) }
+        ensures frames { result.0.now ≡ take limit (crash_walk_of self.now).frames }
+        ensures candidates { result.1.now ≡ take (limit - length (crash_walk_of self.now).frames)
+            (crash_walk_of self.now).candidates }
     {
         let (frames, candidates) = (self.frames.as_slice(), self.candidates.as_slice());
         let rest = limit.saturating_sub(frames.len());

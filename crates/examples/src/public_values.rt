@@ -205,10 +205,7 @@ pub fn thread_name(names: &MinidumpThreadNames, thread_id: u32) -> Option<&str>
 
 /// Returns how many entries of a list of names name a text where none is.
 pub fn unreadable_names(names: &MinidumpThreadNames) -> u64
-    ensures { thread_names_stream.value names.now ≡ record {
-      names = (thread_names_stream.value names.now).names;
-      unreadable = result;
-    } }
+    ensures { result ≡ (thread_names_stream.value names.now).unreadable }
 {
     names.unreadable_names()
 }

@@ -185,8 +185,9 @@ enum minidump_end {
                                            * at 2^32 or beyond */
     MINIDUMP_END_NO_CODE = 7,             /* the return address is 0, or neither a module nor memory that may be run contains
                                            * the address below it */
-    MINIDUMP_END_NO_RETURN_RULE = 8,      /* call frame information of symbols has no rule for the return address */
-    MINIDUMP_END_ZERO_RETURN_ADDRESS = 9  /* the return address is 0 by it. No call of this library reads symbols */
+    MINIDUMP_END_NO_RETURN_RULE = 8,      /* call frame information of symbols, which no call of this library reads, has no
+                                           * rule for the return address */
+    MINIDUMP_END_ZERO_RETURN_ADDRESS = 9  /* the return address is 0 by that information */
 };
 
 /* Where a text lies in the buffer of texts: how many bytes stand before it, and how many it has. That of an absent text has
@@ -261,7 +262,7 @@ struct minidump_crash {
     size_t texts_len;
     struct minidump_span reason;    /* in words */
     struct minidump_span version;   /* of the operating system, such as 10.0.19041 */
-    struct minidump_span build;     /* of that version: on Windows the service pack, on Linux what the kernel says of itself after it */
+    struct minidump_span build;     /* of that version: on Windows the service pack, on Linux and Android what the kernel says of itself after it */
     struct minidump_span cpu_model; /* the description of the processor */
     uint32_t thread;                /* the id of the thread that crashed */
     uint32_t process_id;

@@ -32,7 +32,7 @@ end_at s f size address =
     else (if nat_lt address f.stack_pointer then BelowStackPointer
     else (if has_record s size address then NoCode else NoRecord))
 
--- why a frame has no caller: the first of these reasons that holds
+-- why a frame has no caller by its frame pointer: the first of these reasons that holds
 abbrev pub walk_end : StackValue → StackFrame → WalkEnd
 walk_end s f = if is_none s.region then NoMemory
     else option_map_or (λ size. option_map_or (end_at s f size) (record_of f) NoFramePointer)

@@ -6,8 +6,9 @@ use crate::addresses::address_after;
 use crate::stack::record_of;
 use crate::{Stack, StackFrame};
 
-/// Why the last frame of a walk has no caller: by its frame pointer, which is taken without the
-/// mark of Swift, the first of these that holds, or one of the last two, by rules.
+/// Why the last frame of a walk has no caller. The last two are said of the rules of its symbol
+/// file, and go before the others. Those are said of its frame pointer, which is taken without the
+/// mark of Swift: the first of them that holds.
 #[derive(Clone, Copy, PartialEq, Eq)]
 pub enum WalkEnd {
     /// The dump has no memory of the stack.

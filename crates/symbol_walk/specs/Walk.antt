@@ -79,7 +79,7 @@ unfoldable pub caller_of : UnwinderValue → FrameValue → Option FrameValue
 caller_of u f = if is_some (end_by_rules u f) then None
     else option_or (caller_by_rules u f) (caller_without u f)
 
--- why a frame has no caller
+-- why a frame has no caller: by its rules, or else by its frame pointer
 abbrev pub end_of : UnwinderValue → FrameValue → WalkEnd
 end_of u f = unwrap_or (end_by_rules u f) (walk_end u.stack f.frame)
 

@@ -25,8 +25,8 @@ pub(crate) struct KnownFrame {
 }
 
 /// Walks a stack from a context by the symbols of the modules. Returns the frame of the context,
-/// its callers, at most `limit` candidates of these, and why there are no more callers: if neither
-/// rules nor the frame pointer nor the next words give one, why the frame pointer gives none.
+/// its callers, at most `limit` candidates of these, and why there are no more callers: by its rules
+/// (`NoReturnRule`, `ZeroReturnAddress`), or else by its frame pointer.
 ///
 /// `symbols` has the symbols of each module at the index that the module has in the list of
 /// modules, or `None` if they aren't known. A shorter slice has none for the rest. The only error
