@@ -1,1 +1,4 @@
-mod GreatestLemmas
+-- The lemmas of this crate.
+mod OutputLemmas
+mod PrintedLemmas
+mod ReportLemmas

@@ -43,7 +43,7 @@ form_in Html limits path symbols c = page_with (json_in limits path symbols c)
 
 -- ---- a crash with symbol files
 
--- what is known of symbol files, and the backtraces by them, with at most so many candidates each
+-- what is known of symbol files, and the backtraces by them, with at most so many candidates a thread
 abbrev pub shown_by : CrashValue → KnownSymbols → ℕ → SymbolizedValue
 shown_by c known scan = record { known = known; threads = backtraces_in c known scan }
 

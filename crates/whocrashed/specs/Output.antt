@@ -10,14 +10,21 @@ use Rattle.whocrashed.specs.declared.output.Stopped.TheVariants.{NoMemory, NoOut
 abbrev pub failure_of : {O : Type 0} → Output O → Option Error
 failure_of out = out.failure
 
--- it took all of a text, and has not failed since
+-- its bytes, where they are known, grew by all of a text, and why it failed is unchanged
 pub record Writes {O : Type 0} (contents : O → Option (List ℕ)) (old new : Output O)
     (text : List ℕ) : Type 0 where
   pub grown : Appends (contents old.to) (contents new.to) text
-  pub alive : failure_of new ≡ failure_of old
+  pub same_failure : failure_of new ≡ failure_of old
 
--- by what a call returned, the output has failed, or it has not since
-abbrev pub Lives : {O X : Type 0} → Output O → Output O → Result X Stopped → Type 0
-Lives old new (Ok _) = failure_of new ≡ failure_of old
-Lives old new (Err (NoMemory _)) = failure_of new ≡ failure_of old
-Lives old new (Err NoOutput) = IsSome (failure_of new)
+-- it grew by some text of which `is` holds
+abbrev pub Gains : {O : Type 0} → (O → Option (List ℕ)) → Output O → Output O
+    → (List ℕ → Type 0) → Type 0
+Gains contents old new is = (text : List ℕ) × is text × Writes contents old new text
+
+-- by what a call returned: at `Ok x` it grew by a text of which `is x` holds; where memory ran out by
+-- one of which `begun` holds; and else it has failed
+abbrev pub GainsBy : {O X : Type 0} → (O → Option (List ℕ)) → Output O → Output O
+    → (X → List ℕ → Type 0) → (List ℕ → Type 0) → Result X Stopped → Type 0
+GainsBy contents old new is begun (Ok x) = Gains contents old new (is x)
+GainsBy contents old new is begun (Err (NoMemory _)) = Gains contents old new begun
+GainsBy contents old new is begun (Err NoOutput) = IsSome (failure_of new)

@@ -7,8 +7,9 @@
 //!
 //! - the lines of [`crash_text::text_of`], under the dump's path if there are several arguments,
 //!   and always with `--stdin-paths`;
-//! - with `--json` the line of JSON of [`crash_json::json_of`]. A file that can't be read, or is
-//!   no dump, has a line too, whose `status` says why, so that there are as many lines as dumps;
+//! - with `--json` the line of JSON of [`crash_json::json_of`]. A file that can't be read, is too
+//!   large, or is no dump, has a line too, whose `status` says why, so that there are as many lines
+//!   as dumps;
 //! - with `--html`, which takes one dump, the page of [`crash_html::page`].
 //!
 //! A dump is read once, into a [`crash::Crash`], and all three are made of that. `-` is the dump on
@@ -34,22 +35,36 @@
 //!
 //! # What is proved
 //!
-//! The options, the dumps and the symbol files are those of [`whocrashed_inputs`]. The status of a
-//! dump is that of the crash that its bytes hold, whatever the form: `report_bytes`. It is 1 for a
-//! file that can't be read or is too large, and may be 1 for any where memory ran out: `report`.
-//! Arguments that give no options have status 0 if they ask for the help or the version, 1 if
-//! memory ran out, and else 2: `answer`, `complain_of_arguments`. The status of a run is the
-//! greatest of its dumps', with some names of codes, for whatever reads them: `report_each`,
-//! `report_dumps`, `obey`, `run_by`. It may be 1 for any, since memory may run out and names may
-//! not be read. Only where a write of the output failed is it that of the first dumps alone, if the
-//! kind of the failure is that of a closed pipe, and else 1: `Output::put`, `end`. The options are
-//! those that the words ask for, and an error has a kind that they may have: `run`. What is made of
-//! a crash is its text, its JSON or its page, by the options and by symbol files of its modules:
-//! `form_of`. The line of JSON of a file that is no dump is its path and why: `error_line`.
+//! What is said of printing holds for a writer whose bytes are known. The options, the dumps and
+//! the symbol files are those of [`whocrashed_inputs`]. What is made of a crash is its text, its
+//! JSON or its page, by the options and by symbol files of its modules: `form_of`. That is printed
+//! of a dump; in text below its path, unless it is the only one and no list is asked for. Of a file
+//! that is no dump only that path is printed in text, in JSON a line with its path and why, and
+//! nothing as a page; of one that can't be read or is too large, or whose path isn't UTF-8, that
+//! line in JSON, and else nothing: `report_bytes`, `report_file`, `try_report`. The status of a
+//! dump is that of the crash that its bytes hold, whatever the form, and else 1: the same calls.
+//! Where memory ran out for a dump, its status is 1, and of it only its path may be printed, or in
+//! JSON the line that memory ran out: `report`, which allows this at any dump. The line
+//! `{"path":null,"status":"OutOfMemory"}` may stand for any line with a path and why:
+//! `print_error`.
 //!
-//! What isn't: that these are what is printed, that `main` passes on its arguments and its output,
-//! and what reading a file returns, so that `run` alone, which reads files, doesn't say that a
-//! status is that of their bytes.
+//! A run prints the texts of its dumps, those of the arguments and then of the list, one after
+//! another, and has the greatest of their statuses, and of 1 if the list can't be read or is too
+//! large, for whatever reads them: `report_each`, `report_dumps`, `obey`, `run_by`. The names of
+//! codes are those that are compiled in, or none, unless files of names are asked for:
+//! `names_text`. A run may also print nothing and have the status 1, since memory may run out and
+//! names may not be read. If a write of the output failed, the status is that of some first dumps
+//! where the failure that was kept is that of a closed pipe, and else 1, and nothing is said of
+//! what was printed: `Output::put`, `end`. Arguments that give no options have status 0 if they ask
+//! for the help or the version, 1 if memory ran out, and else 2: `answer`, `complain_of_arguments`;
+//! nothing is printed unless it is 0: `answer`. The options are those that the words ask for, if
+//! they have no fault and these options aren't refused, and an error has a kind that the words may
+//! have; files are read by the limit of the options: `run`.
+//!
+//! What isn't: that standard output has what was written to it; the texts of the help and of
+//! errors, and what is said on standard error; the names in files; that `main` passes on its
+//! arguments, its output and the status; and what reading a file returns but for its length, so
+//! that `run`, which reads files, doesn't say that a report is that of their bytes.
 #![tactic(auto)]
 
 mod complain;

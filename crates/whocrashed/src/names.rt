@@ -1,3 +1,7 @@
+ghost use Rattle.std.specs.Prelude.{◌≡◌, [], IfOk, Some, string_bytes};
+ghost use Rattle.std.specs.Option.{option_map};
+ghost use Rattle.whocrashed.specs.Run.{known_text};
+
 use crate::complain::complain;
 use minidump_names::{NameTable, family_name, listing_in};
 use std::alloc::{AllocError, Global};
@@ -11,7 +15,10 @@ use whocrashed_inputs::Options;
 pub(crate) fn names_text(
     rt: &HostRuntime,
     options: &Options<'_>,
-) -> Result<Option<String>, AllocError> {
+) -> Result<Option<String>, AllocError>
+    ensures { IfOk result (λ text. options.now.names.items ≡ []
+        → option_map string_bytes text ≡ Some (known_text options.now.only_names)) }
+{
     let known = if options.only_names {
         String::new(rt.alloc())
     } else {

@@ -1,13 +1,12 @@
-ghost use Rattle.std.specs.Prelude.{◌≡◌, ◌⊎◌, ◌<◌, ◌≤◌, ℕ, IfErr, IfNone, IfOk, IsSome, None};
-ghost use Rattle.std.specs.Prelude.{OnErr, OnOk, OnSome, map, take};
+ghost use Rattle.std.specs.Prelude.{◌≡◌, ◌≢◌, ◌⊎◌, ◌<◌, ℕ, IfErr, IfNone, IfOk, IsSome, List};
+ghost use Rattle.std.specs.Prelude.{[], None, OnErr, OnOk, OnSome, map, take};
 ghost use Rattle.std.specs.IoError.{error_kind};
 ghost use Rattle.clap.specs.Words.{kind_of};
 ghost use Rattle.whocrashed_inputs.specs.Input.{asked_of};
-ghost use Rattle.whocrashed_inputs.specs.declared.input.Files.{Files};
-ghost use Rattle.whocrashed.specs.Output.{Lives, failure_of};
-ghost use Rattle.whocrashed.specs.Status.{IsGreatest, IsListOf, IsOfDumps, IsOfOptions, IsRunOf};
-ghost use Rattle.whocrashed.specs.Status.{IsStatusOf, MayHave, status_after, status_of_kind};
-ghost use Rattle.whocrashed.specs.Status.{status_without};
+ghost use Rattle.whocrashed.specs.Output.{Gains, GainsBy, Writes, failure_of};
+ghost use Rattle.whocrashed.specs.Run.{AreReports, IsListOf, IsOfDumps, IsOfOptions, IsRunOf};
+ghost use Rattle.whocrashed.specs.Run.{IsRunBy, MayHave};
+ghost use Rattle.whocrashed.specs.Status.{status_after, status_of_kind, status_without};
 
 use crate::complain::{complain, complain_in_any_case, say};
 use crate::names::names_text;
@@ -24,12 +23,12 @@ use std::io::Write;
 use whocrashed_inputs::{Dump, Files, Options, ReadDumps, SymbolCache, dumps_in};
 
 /// Runs the program with its arguments, without its own name, and returns the status: 0; 1 where a
-/// dump, a file or the output failed, where something of a dump is there and can't be read, and
-/// where memory ran out; 2 for arguments that are refused. A pipe that is closed ends it quietly.
+/// dump, the list of paths, names of codes or the output failed, where something of a dump is there
+/// and can't be read, and where memory ran out; 2 for arguments that are malformed or refused. A pipe
+/// that is closed ends it quietly.
 pub(crate) fn run<O: Write>(rt: &HostRuntime, words: &[String], out: &mut Output<O>) -> u8
     requires { failure_of out.old ≡ None }
-    ensures { (files : Files) × IsRunOf (⟦<Files<'static> as ReadDumps>⟧.reads files) words.now
-        (failure_of out.new) result }
+    ensures { IsRunOf O.contents out.old out.new words.now result }
 {
     let read = Options::read(rt.alloc(), words);
     let limit = match &read {
@@ -47,7 +46,7 @@ fn run_by<S: ReadDumps, O: Write>(
     out: &mut Output<O>,
 ) -> u8
     requires { failure_of out.old ≡ None }
-    ensures { IsStatusOf (S.reads source.now) read.now (failure_of out.new) result }
+    ensures { IsRunBy O.contents out.old out.new (S.reads source.now) read.now result }
 {
     let status = match read {
         Ok(options) => obey(rt, options, source, out),
@@ -97,7 +96,9 @@ pub(crate) fn complain_of_arguments(rt: &HostRuntime, error: &io::Error) -> u8
 // Returns the status. Running out of memory is an error.
 fn answer<O: Write>(rt: &HostRuntime, error: &Error, out: &mut Output<O>) -> io::Result<u8>
     ensures status { IfOk result (λ status. status ≡ status_of_kind (kind_of error.now)) }
-    ensures alive { OnErr result (failure_of out.new ≡ failure_of out.old) }
+    ensures printed { IfOk result (λ status. IfNone (failure_of out.new)
+        (Gains O.contents out.old out.new (λ text. status ≢ 0 → text ≡ []))) }
+    ensures nothing { OnErr result (Writes O.contents out.old out.new []) }
 {
     let mut text = String::new(rt.alloc());
     for line in format!(in rt.alloc(); "{error}")?.lines() {
@@ -124,11 +125,13 @@ fn obey<'o, S: ReadDumps, O: Write>(
     out: &mut Output<O>,
 ) -> io::Result<u8>
     requires { failure_of out.old ≡ None }
-    ensures whole { IfOk result (λ status. IfNone (failure_of out.new) ((status ≡ 1)
-        ⊎ IsOfOptions (S.reads source.now) (λ dumps. dumps) options.now status)) }
+    ensures whole { IfOk result (λ status. IfNone (failure_of out.new) (((status ≡ 1)
+        × Writes O.contents out.old out.new []) ⊎ Gains O.contents out.old out.new
+        (IsOfOptions (S.reads source.now) (λ dumps. dumps) options.now status))) }
     ensures failed { IfOk result (λ status. OnSome (failure_of out.new) ((count : ℕ)
-        × IsOfOptions (S.reads source.now) (take count) options.now status)) }
-    ensures alive { OnErr result (failure_of out.new ≡ None) }
+        × (text : List ℕ)
+        × IsOfOptions (S.reads source.now) (take count) options.now status text)) }
+    ensures nothing { OnErr result (Writes O.contents out.old out.new []) }
 {
     let Some(text) = names_text(rt, options)? else {
         return Ok(1);
@@ -157,22 +160,22 @@ fn obey<'o, S: ReadDumps, O: Write>(
 }
 
 // Reports on the dumps of the arguments, and on those of the list on standard input if one is asked
-// for. Makes `worst` the greatest of their statuses and of what it was, or of 1 if the list can't
-// be read or is too large. After a failure of the output only the dumps before it count.
+// for. Makes `worst`, which is 0, the greatest of their statuses, and of 1 if the list can't be read
+// or is too large. After a failure of the output only the dumps before it count.
 fn report_dumps<S: ReadDumps, O: Write>(
     reporter: &Reporter<'_, '_, '_>,
     source: &S,
     out: &mut Output<O>,
     worst: &mut u8,
 ) -> Result<(), Stopped>
-    requires { worst.old < 2 }
+    requires { worst.old ≡ 0 }
     ensures bound { worst.new < 2 }
-    ensures all { OnOk result (IsOfDumps (S.reads source.now) (λ dumps. dumps)
-        reporter.now.names.now reporter.now.options.now worst.old worst.new) }
+    ensures all { GainsBy O.contents out.old out.new (λ _. IsOfDumps (S.reads source.now)
+        (λ dumps. dumps) reporter.now.names.now reporter.now.options.now worst.new)
+        (λ text. text ≡ []) result }
     ensures before { IfErr result (λ why. why ≡ Stopped.NoOutput → (count : ℕ)
-        × IsOfDumps (S.reads source.now) (take count) reporter.now.names.now
-        reporter.now.options.now worst.old worst.new) }
-    ensures alive { Lives out.old out.new result }
+        × (text : List ℕ) × IsOfDumps (S.reads source.now) (take count) reporter.now.names.now
+        reporter.now.options.now worst.new text) }
 {
     let list = list_of(reporter, source, worst)?;
     let dumps = dumps_in(
@@ -193,10 +196,10 @@ fn list_of<S: ReadDumps>(
     source: &S,
     worst: &mut u8,
 ) -> Result<Vec<u8>, AllocError>
-    requires { worst.old < 2 }
+    requires { worst.old ≡ 0 }
     ensures bound { worst.new < 2 }
     ensures list { IfOk result (λ list. IsListOf (S.reads source.now)
-        reporter.now.options.now.are_listed worst.old list.items worst.new) }
+        reporter.now.options.now.are_listed list.items worst.new) }
 {
     if !reporter.options.are_listed {
         return Ok(Vec::new(reporter.rt.alloc()));
@@ -222,12 +225,12 @@ fn report_each<S: ReadDumps, O: Write>(
 ) -> Result<(), OutputFailed>
     requires { worst.old < 2 }
     ensures bound { worst.new < 2 }
-    ensures all { OnOk result (IsGreatest (MayHave (S.reads source.now) reporter.now.names.now
-        reporter.now.options.now.scan) worst.old (map asked_of dumps.now) worst.new) }
-    ensures before { OnErr result ((count : ℕ) × IsGreatest (MayHave (S.reads source.now)
-        reporter.now.names.now reporter.now.options.now.scan) worst.old
-        (map asked_of (take count dumps.now)) worst.new) }
-    ensures alive { OnOk result (failure_of out.new ≡ failure_of out.old) }
+    ensures all { OnOk result (Gains O.contents out.old out.new (AreReports (MayHave
+        (S.reads source.now) reporter.now.names.now reporter.now.options.now) worst.old
+        (map asked_of dumps.now) worst.new)) }
+    ensures before { OnErr result ((count : ℕ) × (text : List ℕ) × AreReports (MayHave
+        (S.reads source.now) reporter.now.names.now reporter.now.options.now) worst.old
+        (map asked_of (take count dumps.now)) worst.new text) }
     ensures failed { OnErr result (IsSome (failure_of out.new)) }
 {
     let mut cache = SymbolCache::new(reporter.rt, reporter.options);

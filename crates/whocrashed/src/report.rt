@@ -1,9 +1,14 @@
-ghost use Rattle.std.specs.Prelude.{◌≡◌, ◌≢◌, ◌<◌, ◌++◌, [], ◌∷◌, IfOk, IsOk, IsSome, OnErr, OnOk};
+ghost use Rattle.std.specs.Prelude.{◌≡◌, ◌≢◌, ◌<◌, ◌++◌, ℕ, List, [], ◌∷◌, IfOk, IsOk, IsSome};
+ghost use Rattle.std.specs.Prelude.{OnErr, OnOk};
 ghost use Rattle.crash.specs.Crash.{crash_in, status_of};
 ghost use Rattle.crash_json.specs.Report.{error_text};
+ghost use Rattle.minidump.specs.Below.Format.Error.{name_of_error};
 ghost use Rattle.whocrashed_inputs.specs.Input.{asked_of};
-ghost use Rattle.whocrashed.specs.Output.{Lives, failure_of};
-ghost use Rattle.whocrashed.specs.Status.{HasStatus, MayHave, status_read};
+ghost use Rattle.whocrashed.specs.Output.{Gains, GainsBy, failure_of};
+ghost use Rattle.whocrashed.specs.Printed.{IsBegun, IsErrorLine, IsFailure, IsReport, IsPrintedOf};
+ghost use Rattle.whocrashed.specs.Printed.{IsUnreported, heading_of};
+ghost use Rattle.whocrashed.specs.Run.{HasReport, MayHave, path_of};
+ghost use Rattle.whocrashed.specs.Status.{status_read};
 
 use crate::complain::{complain, complain_in_any_case, say};
 use crate::form::end_line;
@@ -39,10 +44,10 @@ impl Reporter<'_, '_, '_> {
         cache: &mut SymbolCache<'_>,
         out: &mut Output<O>,
     ) -> Result<u8, OutputFailed>
-        ensures status { IfOk result (MayHave (S.reads source.now) self.now.names.now
-            self.now.options.now.scan (asked_of dump.entry)) }
+        ensures reported { IfOk result (λ status. Gains O.contents out.old out.new (MayHave
+            (S.reads source.now) self.now.names.now self.now.options.now (asked_of dump.entry)
+            status)) }
         ensures bound { IfOk result (λ status. status < 2) }
-        ensures alive { OnOk result (failure_of out.new ≡ failure_of out.old) }
         ensures failed { OnErr result (IsSome (failure_of out.new)) }
     {
         match self.try_report(source, dump, cache, out) {
@@ -63,10 +68,10 @@ impl Reporter<'_, '_, '_> {
         cache: &mut SymbolCache<'_>,
         out: &mut Output<O>,
     ) -> Result<u8, Stopped>
-        ensures status { IfOk result (HasStatus (S.reads source.now) self.now.names.now
-            self.now.options.now.scan (asked_of dump.entry)) }
+        ensures reported { GainsBy O.contents out.old out.new (HasReport (S.reads source.now)
+            self.now.names.now self.now.options.now (asked_of dump.entry))
+            (IsBegun self.now.options.now (path_of (asked_of dump.entry))) result }
         ensures bound { IfOk result (λ status. status < 2) }
-        ensures alive { Lives out.old out.new result }
     {
         match dump {
             Dump::Input => self.report_file("-", source.read_input(), cache, out),
@@ -79,14 +84,17 @@ impl Reporter<'_, '_, '_> {
         }
     }
 
-    // Prints that memory ran out at a dump, or that alone if there is none for its path.
+    // Prints that memory ran out at a dump, with its path where that is UTF-8 and there is memory for
+    // the line.
     fn complain_of_memory<O: Write>(
         &self,
         dump: Dump<'_>,
         error: &io::Error,
         out: &mut Output<O>,
     ) -> Result<(), OutputFailed>
-        ensures alive { OnOk result (failure_of out.new ≡ failure_of out.old) }
+        ensures printed { OnOk result (Gains O.contents out.old out.new (IsUnreported
+            self.now.options.now.form (path_of (asked_of dump.entry))
+            (name_of_error Error.OutOfMemory))) }
         ensures failed { OnErr result (IsSome (failure_of out.new)) }
     {
         let path = match dump {
@@ -104,7 +112,7 @@ impl Reporter<'_, '_, '_> {
     }
 
     // Reports on what was read at a path, and returns its status.
-    #[tactic(auto, unfolding(crate::specs::Status::status_read))]
+    #[tactic(auto, unfolding(crate::specs::Printed::IsPrintedOf, crate::specs::Status::status_read))]
     fn report_file<O: Write>(
         &self,
         path: &str,
@@ -112,10 +120,11 @@ impl Reporter<'_, '_, '_> {
         cache: &mut SymbolCache<'_>,
         out: &mut Output<O>,
     ) -> Result<u8, Stopped>
-        ensures status { IfOk result (λ status. status
-            ≡ status_read self.now.names.now self.now.options.now.scan read) }
+        ensures reported { GainsBy O.contents out.old out.new (λ status text.
+            (status ≡ status_read self.now.names.now self.now.options.now.scan read)
+            × IsPrintedOf self.now.names.now self.now.options.now path.now read text)
+            (IsBegun self.now.options.now path.now) result }
         ensures bound { IfOk result (λ status. status < 2) }
-        ensures alive { Lives out.old out.new result }
     {
         match read {
             Ok(Some(bytes)) => self.report_bytes(path, &bytes, cache, out),
@@ -139,9 +148,11 @@ impl Reporter<'_, '_, '_> {
         cache: &mut SymbolCache<'_>,
         out: &mut Output<O>,
     ) -> Result<u8, Stopped>
-        ensures status { IfOk result (λ status. status
-            ≡ status_of (crash_in bytes.now self.now.names.now self.now.options.now.scan)) }
-        ensures alive { Lives out.old out.new result }
+        ensures { GainsBy O.contents out.old out.new (λ status text. (status ≡ status_of
+            (crash_in bytes.now self.now.names.now self.now.options.now.scan))
+            × IsReport self.now.options.now path.now
+            (crash_in bytes.now self.now.names.now self.now.options.now.scan) text)
+            (IsBegun self.now.options.now path.now) result }
     {
         self.print_heading(path, out)?;
         let crash = Crash::read(self.rt.alloc(), bytes, self.names, self.options.scan);
@@ -159,8 +170,10 @@ impl Reporter<'_, '_, '_> {
 
     // Prints the path of a dump before its lines, unless it is the only argument and no list of
     // paths is asked for.
+    #[tactic(auto, unfolding(crate::specs::Printed::heading_of))]
     fn print_heading<O: Write>(&self, path: &str, out: &mut Output<O>) -> Result<(), Stopped>
-        ensures { Lives out.old out.new result }
+        ensures { GainsBy O.contents out.old out.new (λ _ text. text
+            ≡ heading_of self.now.options.now path.now) (λ text. text ≡ []) result }
     {
         let is_one = self.options.dumps.len() == 1 && !self.options.are_listed;
         if matches!(self.options.form, Form::Lines) && !is_one {
@@ -179,7 +192,8 @@ impl Reporter<'_, '_, '_> {
         out: &mut Output<O>,
     ) -> Result<(), Stopped>
         ensures memory { IsOk result → error ≢ Error.OutOfMemory }
-        ensures alive { Lives out.old out.new result }
+        ensures printed { GainsBy O.contents out.old out.new (λ _. IsUnreported
+            self.now.options.now.form path.now (name_of_error error)) (λ text. text ≡ []) result }
     {
         match (error, self.options.form) {
             (Error::OutOfMemory, _) => Err(Stopped::from(AllocError)),
@@ -196,8 +210,9 @@ impl Reporter<'_, '_, '_> {
         why: &E,
         out: &mut Output<O>,
     ) -> Result<u8, Stopped>
-        ensures status { IfOk result (λ status. status ≡ 1) }
-        ensures alive { Lives out.old out.new result }
+        ensures { GainsBy O.contents out.old out.new (λ status text. (status ≡ 1)
+            × IsFailure (E.output why.now) self.now.options.now.form path.now text)
+            (λ text. text ≡ []) result }
     {
         if matches!(self.options.form, Form::Json) {
             let words = format!(in self.rt.alloc(); "{why}")?;
@@ -216,7 +231,8 @@ impl Reporter<'_, '_, '_> {
         status: &str,
         out: &mut Output<O>,
     ) -> Result<(), OutputFailed>
-        ensures alive { OnOk result (failure_of out.new ≡ failure_of out.old) }
+        ensures printed { OnOk result (Gains O.contents out.old out.new (IsErrorLine path.now
+            status.now)) }
         ensures failed { OnErr result (IsSome (failure_of out.new)) }
     {
         match self.error_line(path, status) {
@@ -226,10 +242,10 @@ impl Reporter<'_, '_, '_> {
     }
 
     // Makes the line of JSON of a file without a report.
-    fn error_line(&self, path: &str, status: &str) -> Result<Vec<u8>, Error>
+    fn error_line(&self, path: &str, status: &str) -> Result<Vec<u8>, AllocError>
         ensures { IfOk result (λ line. line.items
             ≡ error_text path.now status.now ++ 0x0a ∷ []) }
     {
-        Ok(end_line(error_json(self.rt.alloc(), path, status)?)?)
+        end_line(error_json(self.rt.alloc(), path, status)?)
     }
 }

@@ -2,8 +2,8 @@
 use Rattle.std.proofs.Common.{◌≡◌, map}
 use Rattle.std.proofs.lemmas.List.{take-map}
 use Rattle.whocrashed_inputs.specs.Input.{asked_of}
-use Rattle.whocrashed.specs.Status.{MayHave, dumps_by}
-use Rattle.whocrashed.proofs.GreatestLemmas.{of_first}
+use Rattle.whocrashed.specs.Run.{MayHave, dumps_by}
+use Rattle.whocrashed.proofs.ReportLemmas.{of_first}
 use Rattle.whocrashed.proofs.program.report_dumps.Goals as goal
 
 pub returns-clause-before : goal.returns-clause-before
@@ -13,11 +13,12 @@ returns-clause-before g c =
     let before = c.in-Err.ensures.before in
     λ _. (
       before.0,
+      before.1,
       (
         c.in_ok-list.list.items,
         c.list_of.new.worst,
         c.in_ok-list.ensures.list,
-        of_first (MayHave (g.S.ReadDumps.reads c.args.source.now) c.args.reporter.now.names.now c.args.reporter.now.options.now.scan)
-            c.list_of.new.worst before.0 _ _ _ same (rw take-map before.1),
+        of_first (MayHave (g.S.ReadDumps.reads c.args.source.now) c.args.reporter.now.names.now c.args.reporter.now.options.now)
+            c.list_of.new.worst before.0 _ _ _ before.1 same (rw take-map before.2),
       ),
     )
